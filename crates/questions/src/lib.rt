@@ -1,0 +1,5 @@
+// The questions that calls ask, the fields of a book file, and the fault that a refused reading tells.
+
+mod question;
+
+pub use question::Question;
