@@ -1,1 +1,6 @@
 pub mod Validity
+pub mod Each
+pub mod Orders
+pub mod Steps
+pub mod Layouts
+pub mod TableSteps

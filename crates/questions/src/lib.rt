@@ -3,3 +3,4 @@
 mod question;
 
 pub use question::Question;
+pub use question::QuestionDebug;
