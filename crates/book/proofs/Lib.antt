@@ -4,3 +4,5 @@ pub mod Orders
 pub mod Steps
 pub mod Layouts
 pub mod TableSteps
+pub mod Pairs
+pub mod BookSteps

@@ -14,12 +14,13 @@ use Rattle.book.specs.Contents.{Table, Contents}
 use Rattle.book.specs.Layout.{cut}
 use Rattle.book.specs.Readings.{Reading, Source, andThen, ask, give, next, within, each}
 
--- the size of an option, and the length of its name
-abbrev pub option : Source → ℕ → Reading (ℕ × ℕ)
-option s i = next (within s (Field.Size i) 1 33) (λ size. next (within s (Field.NameLength i) 1 17) (λ long. give (size, long)))
+-- the size of the option i, and the length of its name
+abbrev pub shape : Source → ℕ → Reading (ℕ × ℕ)
+shape s i = next (within s (Field.Size i) 1 33) (λ size. next (within s (Field.NameLength i) 1 17) (λ long. give (size, long)))
 
-abbrev pub options : Source → ℕ → Reading (List (ℕ × ℕ))
-options s n = each (option s) (λ i _. i + 1) 0 n
+-- the sizes of n options, and the lengths of their names
+abbrev pub shapes : Source → ℕ → Reading (List ℕ × List ℕ)
+shapes s n = next (each (shape s) (λ i _. i + 1) 0 n) (λ os. give (map (λ o. o .0) os, map (λ o. o .1) os))
 
 -- The scope of the table t: options of the book in rising order. Carried on: the place in the scope, and the lowest option that may stand there.
 abbrev pub member : Source → ℕ → ℕ → ℕ × ℕ → Reading ℕ
@@ -81,14 +82,23 @@ letter s k = within s (Field.NameByte k) 0x21 0x7f
 abbrev pub letters : Source → ℕ → Reading (List ℕ)
 letters s n = each (letter s) (λ k _. k + 1) 0 n
 
-abbrev pub book : Source → Reading Contents
-book s =
+-- the edition, and the numbers of options and tables
+abbrev pub counts : Source → Reading (ℕ × ℕ)
+counts s =
     next (within s Field.Edition 1 2) (λ _.
     next (within s Field.Options 1 25) (λ n.
-    next (within s Field.Tables 0 49) (λ m.
-    next (options s n) (λ os.
-    next (tables s (map (λ o. o .0) os) m) (λ ts.
+    next (within s Field.Tables 0 49) (λ m. give (n, m))))
+
+-- the filling bits and n name bytes, behind which nothing stands
+abbrev pub tail : Source → ℕ → Reading (List ℕ)
+tail s n =
     next (within s Field.Filling 0 1) (λ _.
-    next (letters s (sum (map (λ o. o .1) os))) (λ ls.
-    next (within s Field.End 0 1) (λ _.
-    give (record { sizes = map (λ o. o .0) os; names = cut ls (map (λ o. o .1) os); tables = ts })))))))))
+    next (letters s n) (λ ls.
+    next (within s Field.End 0 1) (λ _. give ls)))
+
+abbrev pub book : Source → Reading Contents
+book s =
+    next (counts s) (λ c.
+    next (shapes s (c .0)) (λ os.
+    next (tables s (os .0) (c .1)) (λ ts.
+    next (tail s (sum (os .1))) (λ ls. give (record { sizes = os .0; names = cut ls (os .1); tables = ts })))))

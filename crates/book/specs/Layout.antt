@@ -4,7 +4,7 @@ use mathlib.Core.List.{List, [], _∷_, _++_, map}
 use Prim.Native.Nat.{ℕ, _+_, _-_, _<_, _≤_}
 use lib.ListN.{length, getD, take, drop, replicate}
 use Rattle.std.specs.Joined.{joined}
-use Rattle.std.specs.shelf.Lists.{All}
+use Rattle.std.specs.shelf.Lists.{All, sum}
 use Rattle.book.specs.Contents.{Table, Contents}
 use Rattle.book.specs.declared.index.TableIndex.{TableIndex}
 use Rattle.book.specs.declared.index.Index.{Index}
@@ -51,3 +51,11 @@ contentsOf rows letters i = record {
   names = cut letters (take (i .options) (i .lengths));
   tables = map (tableOf rows) (take (i .tables) (i .table));
 }
+
+-- What holds of an index and the rows that it was made with.
+pub record Indexed (rows : List (List ℕ)) (i : Index) : Type 0 where
+  pub few : i .options ≤ 24
+  pub tabled : i .tables ≤ 48
+  pub spelled : i .letters ≡ sum (take (i .options) (i .lengths))
+  pub short : i .letters ≤ 384
+  pub laid : Laid (take (i .tables) (i .table)) rows (i .rows)

@@ -1,6 +1,7 @@
 // A book that was read: only reading makes one.
 ghost use denote.Ref.{now as behind};
-ghost use Prim.Native.Nat.{_+_, _≤_};
+ghost use mathlib.Core.Path.{_≡_};
+ghost use Prim.Native.Nat.{_-_, _≤_};
 ghost use lib.ListN.{length, take, drop};
 ghost use Rattle.std.specs.shelf.Lists.{sum};
 ghost use Rattle.book.specs.Contents.{Valid};
@@ -8,17 +9,17 @@ ghost use Rattle.book.specs.Layout.{contentsOf};
 use crate::index::Index;
 use crate::index::Row;
 
-/// A read book: its file, in which the names begin at byte `names`, its rows, and where its parts are.
+/// A read book: its file, at the end of which the names stand, its rows, and where its parts are.
 #[derive(Drop)]
 pub struct Book<'a> {
     file: &'a [u8],
-    names: usize,
     rows: &'a [Row],
     index: Index,
     ghost few: { index .options ≤ 24 },
     ghost tabled: { index .tables ≤ 48 },
-    ghost spelled: { names + sum (take (index .options) (index .lengths)) ≤ length (behind file) },
-    ghost valid: { ∥ Valid (contentsOf (behind rows) (drop names (behind file)) index) ∥₁ },
+    ghost spelled: { index .letters ≡ sum (take (index .options) (index .lengths)) },
+    ghost inside: { index .letters ≤ length (behind file) },
+    ghost valid: { ∥ Valid (contentsOf (behind rows) (drop (length (behind file) - index .letters) (behind file)) index) ∥₁ },
 }
 
 pub mod parts;

@@ -1,6 +1,4 @@
 // Where a read book has its parts.
-ghost use Prim.Native.Nat.{_≤_};
-
 /// A row has a place for each option of the longest scope; a shorter scope leaves the last ones 0.
 pub type Row = [u8; 4];
 
@@ -13,12 +11,14 @@ pub struct TableIndex {
     pub count: usize,
 }
 
-/// The sizes and name lengths of a book's options, and its tables.
+/// The sizes and name lengths of a book's options, and its tables; how many name bytes and rows there are together.
 #[derive(Clone, Copy, Debug)]
 pub struct Index {
     pub options: usize,
     pub sizes: [u8; 24],
     pub lengths: [u8; 24],
+    pub letters: usize,
     pub tables: usize,
     pub table: [TableIndex; 48],
+    pub rows: usize,
 }

@@ -1,6 +1,8 @@
 mod book;
 mod field;
 mod index;
+mod options;
+mod reader;
 mod source;
 mod tables;
 
