@@ -5,15 +5,15 @@ use mathlib.Core.Logic.{⊎-elim}
 use mathlib.Core.List.{List, [], _∷_, _++_}
 use Prim.Native.Nat.{ℕ, zero, suc, _+_, _-_, _*_, _/_, _%_, _^_, _<_, _≤_}
 use native.Mathlib.Omega.{arith}
-use native.Mathlib.Nat.{mul-assoc}
+use native.Mathlib.Nat.{mul-assoc, mod-eq-of-lt}
 use native.Mathlib.Numerals.{one-add}
 use lib.ListN.{length, take, drop, getD, length-append, length-drop}
 use lib.Bits.{bitAnd, and-mask}
-use lib.Seq.{getD-drop}
+use lib.Seq.{getD-drop, drop-nil}
 use lib.Pow.{pow-add, mod-pow-add}
-use Rattle.std.proofs.shelf.Lists.{getD-append-left, getD-append-right, take-more}
+use Rattle.std.proofs.shelf.Lists.{getD-append-left, getD-append-right, take-more, at-drop-more, drop-drop}
 use Rattle.std.proofs.str.Laws.{order}
-use Rattle.bits.specs.Bits.{spell, number, bits}
+use Rattle.bits.specs.Bits.{spell, number, bits, value}
 
 pub length-spell : (w v : ℕ) → length (spell w v) ≡ w
 length-spell zero v = refl
@@ -35,13 +35,13 @@ getD-bits [] i h = absurd (omega arith)
 getD-bits (b ∷ bs) i h =
     ⊎-elim
     (λ low.
-        let q : i / 8 ≡ 0 = omega arith in
-        let r : i % 8 ≡ i = omega arith in
-        getD-append-left (spell 8 b) (bits bs) 0 i low ∙ getD-spell 8 b i low ∙ rw (q, r))
+    let q : i / 8 ≡ 0 = omega arith in
+    let r : i % 8 ≡ i = omega arith in
+    getD-append-left (spell 8 b) (bits bs) 0 i low ∙ getD-spell 8 b i low ∙ rw (q, r))
     (λ high.
-        let q : i / 8 ≡ suc ((i - 8) / 8) = omega arith in
-        let r : i % 8 ≡ (i - 8) % 8 = omega arith in
-        getD-append-right (spell 8 b) (bits bs) 8 i 0 refl high ∙ getD-bits bs (i - 8) (omega arith) ∙ rw (q, r))
+    let q : i / 8 ≡ suc ((i - 8) / 8) = omega arith in
+    let r : i % 8 ≡ (i - 8) % 8 = omega arith in
+    getD-append-right (spell 8 b) (bits bs) 8 i 0 refl high ∙ getD-bits bs (i - 8) (omega arith) ∙ rw (q, r))
     (order i 8)
 
 pub number-push : (bs : List ℕ) (b : ℕ) → number (bs ++ b ∷ []) ≡ number bs * 2 + b
@@ -71,3 +71,18 @@ read-more file at i v so le lt =
     let more = number-more (drop at (bits file)) (i - at) (simp (length-drop, length-bits) (omega arith)) in
     let mask = and-mask (getD file (i / 8) 0 / 2 ^ (7 - i % 8)) 1 in
     rw k (omega (arith, more, there, mask, so .0), omega (arith, pow-add 2 (i - at) 1, mask, so .1))
+
+pub drop-bits : (file : List ℕ) (b : ℕ) → drop (8 * b) (bits file) ≡ bits (drop b file)
+unfolding bits
+drop-bits file zero = refl
+drop-bits [] (suc b) = drop-nil (8 * suc b)
+drop-bits (x ∷ file) (suc b) =
+    let e : 8 * suc b ≡ 8 + 8 * b = omega arith in
+    ap (λ k. drop k (bits (x ∷ file))) e ∙ sym (drop-drop (8 * b) 8 (bits (x ∷ file))) ∙ drop-bits file b
+
+-- the eight bits from a whole byte on are that byte
+pub value-byte : (file : List ℕ) (b : ℕ) → b < length file → getD file b 0 < 256 → value file (8 * b) 8 ≡ getD file b 0
+unfolding bits
+value-byte file b lt small =
+    ap (λ l. number (take 8 l)) (drop-bits file b ∙ ap bits (at-drop-more (λ l. l) file b 0 lt))
+    ∙ number-spell 8 (getD file b 0) ∙ mod-eq-of-lt small

@@ -39,8 +39,8 @@ module _ (options first : ℕ) (t : TableIndex) (h : Headed options first t) (ou
       let n : length (take (t .arity) (t .scope)) ≡ t .arity = length-take-le (t .arity) (t .scope) (omega (arith, h .few, h .full)) in
       take-putMid first (first + t .count - first) out rows (first + t .count) (omega arith) (omega (arith, h .ends))
       ∙ ap (λ l. take first out ++ l) (sym (
-          (λ i. map (padded (n i)) (map (take (t .arity)) (put-rows i)))
-          ∙ padded-all (t .arity) rows a))
+      (λ i. map (padded (n i)) (map (take (t .arity)) (put-rows i)))
+      ∙ padded-all (t .arity) rows a))
 
 -- what stands at the places before n is all that a table that ends there sees
 window : (xs : List (List ℕ)) (p c n : ℕ) → p + c ≤ n → take c (drop p xs) ≡ take c (drop p (take n xs))

@@ -6,3 +6,6 @@ pub mod Layouts
 pub mod TableSteps
 pub mod Pairs
 pub mod BookSteps
+pub mod Inversion
+pub mod FileNames
+pub mod ReadFile

@@ -24,10 +24,10 @@ module _ (s₀ s₁ : Source) (sizes : List ℕ) (number first a b d x : ℕ) (t
   table-read h room long scoped counted same was head was₂ body =
       let arity : length (take (t .arity) (t .scope)) ≡ t .arity = length-take-le (t .arity) (t .scope) (omega (arith, h .few, h .full)) in
       let rest : rows s₀ number first sizes (take (t .arity) (t .scope)) (t .count) b ≡ Ok (map (take (t .arity)) new, d) =
-          (λ i. rows s₀ number first sizes (sym scoped i) (sym counted i) b)
-          ∙ read-ok (λ s. rows s number first sizes xs n) s₁ s₀ b (λ _. map (take (length xs)) new) same was₂ body
-          ∙ (λ i. Ok (map (take ((ap length scoped ∙ arity) i)) new, d)) in
+      (λ i. rows s₀ number first sizes (sym scoped i) (sym counted i) b)
+      ∙ read-ok (λ s. rows s number first sizes xs n) s₁ s₀ b (λ _. map (take (length xs)) new) same was₂ body
+      ∙ (λ i. Ok (map (take ((ap length scoped ∙ arity) i)) new, d)) in
       (λ i. Ok (put-table (length sizes) first t h out new long room i, d))
       ∙ sym (
-          next-ok (heading s₀ (length sizes) number first) _ a _ b (read-ok (λ s. heading s (length sizes) number first) s₀ s₀ a (λ t. (take (t .arity) (t .scope), t .count)) refl was head)
-          ∙ next-ok (rows s₀ number first sizes (take (t .arity) (t .scope)) (t .count)) _ b _ d rest)
+      next-ok (heading s₀ (length sizes) number first) _ a _ b (read-ok (λ s. heading s (length sizes) number first) s₀ s₀ a (λ t. (take (t .arity) (t .scope), t .count)) refl was head)
+      ∙ next-ok (rows s₀ number first sizes (take (t .arity) (t .scope)) (t .count)) _ b _ d rest)

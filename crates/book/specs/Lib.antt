@@ -4,3 +4,5 @@ pub mod Books
 pub mod Fields
 pub mod Readings
 pub mod Grammar
+pub mod Files
+pub mod Parse

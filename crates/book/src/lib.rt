@@ -1,5 +1,6 @@
 mod book;
 mod field;
+mod file;
 mod index;
 mod options;
 mod reader;

@@ -23,7 +23,12 @@ fn shape<S: Source>(source: &mut S, option: usize) -> Result<(usize, usize), Fau
 }
 
 /// The sizes of `count` options into the front of `sizes`, and the lengths of their names into that of `lengths`; answers the length of all names together.
-pub fn shapes<S: Source>(source: &mut S, count: usize, sizes: &mut [u8], lengths: &mut [u8]) -> Result<usize, Fault>
+pub fn shapes<S: Source>(
+    source: &mut S,
+    count: usize,
+    sizes: &mut [u8],
+    lengths: &mut [u8],
+) -> Result<usize, Fault>
     requires few { ⌜ count ≤ 24 ⌝ }
     requires room { ⌜ count ≤ length (now sizes) ⌝ }
     requires places { ⌜ count ≤ length (now lengths) ⌝ }

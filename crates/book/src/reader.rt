@@ -2,12 +2,15 @@
 ghost use mathlib.Core.Path.{_≡_};
 ghost use Prim.Native.Nat.{_≤_};
 ghost use lib.ListN.{length};
+ghost use Rattle.std.specs.Results.{mapped};
 ghost use Rattle.std.specs.Vec.{made};
 ghost use Rattle.book.specs.Readings.{told};
 ghost use Rattle.book.specs.Grammar.{counts, tail, book};
 ghost use Rattle.book.specs.Layout.{Indexed, contentsOf};
+ghost use Rattle.book.specs.Parse.{Read, filled, indexed, parse};
 use crate::field::Fault;
 use crate::field::Field;
+use crate::file::FileSource;
 use crate::index::Index;
 use crate::index::Row;
 use crate::index::TableIndex;
@@ -16,6 +19,8 @@ use crate::options::shapes;
 use crate::source::Source;
 use crate::source::within;
 use crate::tables::tables;
+use bits::Cursor;
+use questions::Question;
 
 /// The edition, and the numbers of options and tables.
 fn counts<S: Source>(source: &mut S) -> Result<(usize, usize), Fault>
@@ -69,4 +74,33 @@ pub fn book<S: Source>(source: &mut S, out: &mut [Row], names: &mut [u8]) -> Res
         table,
         rows,
     })
+}
+
+/// Reads a book: where its parts are, and its rows, in order, in the first places of `rows`. A refusal leaves `rows` as it was.
+pub fn read(file: &[u8], rows: &mut [Row]) -> Result<Index, Fault>
+    ensures value { λ r. ⌜ mapped (indexed (now (file .entry)) (now (rows .exit))) (λ e. e) r ≡ parse (now (file .entry)) (length (now (rows .entry))) ⌝ }
+    ensures rows { λ r. ⌜ now (rows .exit) ≡ filled (parse (now (file .entry)) (length (now (rows .entry)))) (now (rows .entry)) ⌝ }
+    ensures index { λ r. ⌜ made r (Read (now (file .entry)) (now (rows .exit))) ⌝ }
+{
+    if file.len() > 32768 {
+        return Err(Fault {
+            question: Question::FileLength,
+            bit: 0,
+            field: Field::Whole,
+        });
+    }
+    let mut out = [[0; 4]; 8192];
+    let mut names = [0; 384];
+    let mut cursor = Cursor::new(file);
+    let index = book(&mut cursor, &mut out, &mut names)?;
+    let count = index.rows;
+    if rows.len() < count {
+        return Err(Fault {
+            question: Question::Room,
+            bit: 0,
+            field: Field::Whole,
+        });
+    }
+    rows[0..count].copy_from_slice(&out[0..count]);
+    Ok(index)
 }

@@ -28,7 +28,12 @@ pub trait Source {
 }
 
 /// The next field, whose value has to be at least `low` and below `high`.
-pub fn within<S: Source>(source: &mut S, field: Field, low: usize, high: usize) -> Result<usize, Fault>
+pub fn within<S: Source>(
+    source: &mut S,
+    field: Field,
+    low: usize,
+    high: usize,
+) -> Result<usize, Fault>
     ensures value { λ r. ⌜ told (λ v. v) r (place (now (source .exit))) ≡ within (gives (now (source .entry))) field low high (place (now (source .entry))) ⌝ }
     ensures same { λ _. ⌜ gives (now (source .exit)) ≡ gives (now (source .entry)) ⌝ }
     ensures range { λ r. ⌜ made r (λ v. (low ≤ v) × (v < high)) ⌝ }

@@ -18,7 +18,13 @@ use crate::source::within;
 use questions::Question;
 
 /// The values of a row, each below its option's size; places beyond the scope are 0.
-fn values<S: Source>(source: &mut S, table: usize, row: usize, scope: &[u8], sizes: &[u8]) -> Result<Row, Fault>
+fn values<S: Source>(
+    source: &mut S,
+    table: usize,
+    row: usize,
+    scope: &[u8],
+    sizes: &[u8],
+) -> Result<Row, Fault>
     requires few { ⌜ length (now scope) ≤ 4 ⌝ }
     requires known { ⌜ ((j : ℕ) → j < length (now scope) → getD (now scope) j 0 < length (now sizes)) ⌝ }
     ensures value { λ r. ⌜ told (take (length (now (scope .entry)))) r (place (now (source .exit))) ≡ values (gives (now (source .entry))) table row (now (sizes .entry)) (now (scope .entry)) (place (now (source .entry))) ⌝ }
@@ -35,7 +41,12 @@ fn values<S: Source>(source: &mut S, table: usize, row: usize, scope: &[u8], siz
 }
 
 /// The scope of a table: `count` options of the book, in rising order.
-fn scope<S: Source>(source: &mut S, table: usize, options: usize, count: usize) -> Result<[u8; 4], Fault>
+fn scope<S: Source>(
+    source: &mut S,
+    table: usize,
+    options: usize,
+    count: usize,
+) -> Result<[u8; 4], Fault>
     requires few { ⌜ count ≤ 4 ⌝ }
     requires small { ⌜ options ≤ 24 ⌝ }
     ensures value { λ r. ⌜ told (take count) r (place (now (source .exit))) ≡ scope (gives (now (source .entry))) table options count (place (now (source .entry))) ⌝ }
@@ -66,7 +77,14 @@ fn before(first: &Row, second: &Row, count: usize) -> bool
 }
 
 /// A row of a table, which rises above the last one before it.
-fn row<S: Source>(source: &mut S, table: usize, row: usize, scope: &[u8], sizes: &[u8], last: Option<Row>) -> Result<Row, Fault>
+fn row<S: Source>(
+    source: &mut S,
+    table: usize,
+    row: usize,
+    scope: &[u8],
+    sizes: &[u8],
+    last: Option<Row>,
+) -> Result<Row, Fault>
     requires few { ⌜ length (now scope) ≤ 4 ⌝ }
     requires known { ⌜ ((j : ℕ) → j < length (now scope) → getD (now scope) j 0 < length (now sizes)) ⌝ }
     ensures value { λ r. ⌜ told (take (length (now (scope .entry)))) r (place (now (source .exit))) ≡ rowRead (gives (now (source .entry))) table (now (sizes .entry)) (now (scope .entry)) (row, mapped (take (length (now (scope .entry)))) last) (place (now (source .entry))) ⌝ }
@@ -88,7 +106,14 @@ fn row<S: Source>(source: &mut S, table: usize, row: usize, scope: &[u8], sizes:
 }
 
 /// As many rows of a table as `out` has places, the first of which is the row `first` of the book.
-fn rows<S: Source>(source: &mut S, table: usize, first: usize, scope: &[u8], sizes: &[u8], out: &mut [Row]) -> Result<usize, Fault>
+fn rows<S: Source>(
+    source: &mut S,
+    table: usize,
+    first: usize,
+    scope: &[u8],
+    sizes: &[u8],
+    out: &mut [Row],
+) -> Result<usize, Fault>
     requires few { ⌜ length (now scope) ≤ 4 ⌝ }
     requires known { ⌜ ((j : ℕ) → j < length (now scope) → getD (now scope) j 0 < length (now sizes)) ⌝ }
     requires small { ⌜ first + length (now out) ≤ 8192 ⌝ }
@@ -115,7 +140,12 @@ fn row_limit(first: usize) -> usize
 }
 
 /// The heading of a table: its scope, and the place of its rows, the first of which is the row `first` of the book.
-fn heading<S: Source>(source: &mut S, options: usize, number: usize, first: usize) -> Result<TableIndex, Fault>
+fn heading<S: Source>(
+    source: &mut S,
+    options: usize,
+    number: usize,
+    first: usize,
+) -> Result<TableIndex, Fault>
     requires few { ⌜ options ≤ 24 ⌝ }
     requires small { ⌜ first ≤ 8192 ⌝ }
     ensures value { λ r. ⌜ told (λ t. (take (t .arity) (t .scope), t .count)) r (place (now (source .exit))) ≡ heading (gives (now (source .entry))) options number first (place (now (source .entry))) ⌝ }
@@ -135,7 +165,13 @@ fn heading<S: Source>(source: &mut S, options: usize, number: usize, first: usiz
 }
 
 /// The next table, whose rows go into `out` from place `first` on.
-fn table<S: Source>(source: &mut S, number: usize, first: usize, sizes: &[u8], out: &mut [Row]) -> Result<TableIndex, Fault>
+fn table<S: Source>(
+    source: &mut S,
+    number: usize,
+    first: usize,
+    sizes: &[u8],
+    out: &mut [Row],
+) -> Result<TableIndex, Fault>
     requires few { ⌜ length (now sizes) ≤ 24 ⌝ }
     requires small { ⌜ first ≤ 8192 ⌝ }
     requires room { ⌜ 8192 ≤ length (now out) ⌝ }
@@ -147,12 +183,25 @@ fn table<S: Source>(source: &mut S, number: usize, first: usize, sizes: &[u8], o
     let read = heading(source, sizes.len(), number, first)?;
     let arity = read.arity;
     let end = first + read.count;
-    rows(source, number, first, &read.scope[0..arity], sizes, &mut out[first..end])?;
+    rows(
+        source,
+        number,
+        first,
+        &read.scope[0..arity],
+        sizes,
+        &mut out[first..end],
+    )?;
     Ok(read)
 }
 
 /// `count` tables into the front of `read`, and their rows into the front of `out`; answers how many rows they have together.
-pub fn tables<S: Source>(source: &mut S, count: usize, sizes: &[u8], out: &mut [Row], read: &mut [TableIndex]) -> Result<usize, Fault>
+pub fn tables<S: Source>(
+    source: &mut S,
+    count: usize,
+    sizes: &[u8],
+    out: &mut [Row],
+    read: &mut [TableIndex],
+) -> Result<usize, Fault>
     requires few { ⌜ length (now sizes) ≤ 24 ⌝ }
     requires room { ⌜ 8192 ≤ length (now out) ⌝ }
     requires places { ⌜ count ≤ length (now read) ⌝ }

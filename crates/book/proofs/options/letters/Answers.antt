@@ -23,7 +23,7 @@ pub loop-k-again : need.loop-k-again
 loop-k-again g c =
     let lt : c .loop-k .k < length (c .loop-k .out) = omega arith in
     sofar-more _ _ _ _ _ _ _ _ _ _ (c .loop-k .inv) (λ v. v) (c .within .result) (c .in-Continue-byte .byte) _ _ _ _ (c .loop-k-test .taken) (c .in-Continue-byte .was tt) (c .within .ensures .value) (c .within .ensures .same)
-        (take-more-set (c .loop-k .out) (c .loop-k .k) (c .in-Continue-byte .byte) lt) refl
+    (take-more-set (c .loop-k .out) (c .loop-k .k) (c .in-Continue-byte .byte) lt) refl
 
 pub returns : need.returns
 returns g c =

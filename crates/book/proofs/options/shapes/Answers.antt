@@ -36,11 +36,12 @@ loop-i-again g c =
     let room : i < length lengths = omega arith in
     let even : length (take i sizes) ≡ length (take i lengths) = length-take-le i sizes (omega arith) ∙ sym (length-take-le i lengths (omega arith)) in
     let grown = take-more-set lengths i long room in
-    let summed = ap sum grown ∙ sumBy-push (λ x. x) (take i lengths) long in
-    (sofar-more _ _ _ _ _ _ _ _ _ _ (c .loop-i .inv .0) (λ v. v) (c .shape .result) (size, long) _ _ _ _ (c .loop-i-test .taken) (c .in-Continue-size .was tt) (c .shape .ensures .value) (c .shape .ensures .same)
-        ((λ t. pairs (take-more-set sizes i size fits t) (grown t)) ∙ pairs-push (take i sizes) (take i lengths) size long even) refl,
+    let summed = ap sum grown ∙ sumBy-push (λ x. x) (take i lengths) long in (
+      sofar-more _ _ _ _ _ _ _ _ _ _ (c .loop-i .inv .0) (λ v. v) (c .shape .result) (size, long) _ _ _ _ (c .loop-i-test .taken) (c .in-Continue-size .was tt) (c .shape .ensures .value) (c .shape .ensures .same)
+          ((λ t. pairs (take-more-set sizes i size fits t) (grown t)) ∙ pairs-push (take i sizes) (take i lengths) size long even) refl,
       omega (arith, c .loop-i .inv .1, summed),
-      omega (arith, c .loop-i .inv .2, c .in-Continue-size .ensures tt .range .1))
+      omega (arith, c .loop-i .inv .2, c .in-Continue-size .ensures tt .range .1),
+    )
 
 pub returns : need.returns
 returns g c =

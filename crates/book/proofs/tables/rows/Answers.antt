@@ -30,10 +30,11 @@ loop-i-again g c =
     let i = c .loop-i .i in
     let lt : i < length (c .loop-i .out) = omega arith in
     let grown = take-more-set (c .loop-i .out) i x lt in
-    let count : c .args .first + (i + 1) ≡ c .args .first + i + 1 = omega arith in
-    (sofar-more _ _ _ _ _ _ _ _ _ _ so (take n) (c .row .result) x _ _ _ _ (c .loop-i-test .taken) (c .in-Continue-read .was tt) (c .row .ensures .value) (c .row .ensures .same)
-        (ap (map (take n)) grown ∙ map-append (take n) (take i (c .loop-i .out)) (x ∷ [])) (λ t. (count t, Some (take n x))),
-      rw grown (all-push (Padded n) _ x (c .loop-i .inv .1) (c .in-Continue-read .ensures tt .rest)))
+    let count : c .args .first + (i + 1) ≡ c .args .first + i + 1 = omega arith in (
+      sofar-more _ _ _ _ _ _ _ _ _ _ so (take n) (c .row .result) x _ _ _ _ (c .loop-i-test .taken) (c .in-Continue-read .was tt) (c .row .ensures .value) (c .row .ensures .same)
+          (ap (map (take n)) grown ∙ map-append (take n) (take i (c .loop-i .out)) (x ∷ [])) (λ t. (count t, Some (take n x))),
+      rw grown (all-push (Padded n) _ x (c .loop-i .inv .1) (c .in-Continue-read .ensures tt .rest)),
+    )
 
 pub returns : need.returns
 returns g c =

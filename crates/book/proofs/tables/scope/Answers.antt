@@ -27,8 +27,9 @@ pub loop-j-again : need.loop-j-again
 loop-j-again g c =
     let so = c .loop-j .inv .0 in
     let x = c .in-Continue-option .option in
-    let lt : c .loop-j .j < length (c .loop-j .read) = omega (arith, c .loop-j .inv .2) in
-    (sofar-more _ _ _ _ _ _ _ _ _ _ so (λ v. v) (c .within .result) x _ _ _ _ (c .loop-j-test .taken) (c .in-Continue-option .was tt) (c .within .ensures .value) (c .within .ensures .same)
-        (take-more-set (c .loop-j .read) (c .loop-j .j) x lt) refl,
+    let lt : c .loop-j .j < length (c .loop-j .read) = omega (arith, c .loop-j .inv .2) in (
+      sofar-more _ _ _ _ _ _ _ _ _ _ so (λ v. v) (c .within .result) x _ _ _ _ (c .loop-j-test .taken) (c .in-Continue-option .was tt) (c .within .ensures .value) (c .within .ensures .same)
+          (take-more-set (c .loop-j .read) (c .loop-j .j) x lt) refl,
       below-more _ _ (λ k h. let ne : k ≢ c .loop-j .j = omega arith in rw getD-set-other (c .loop-j .inv .1 k h)) (rw getD-set-same (c .in-Continue-option .ensures tt .range .1)),
-      length-set (c .loop-j .read) (c .loop-j .j) x ∙ c .loop-j .inv .2)
+      length-set (c .loop-j .read) (c .loop-j .j) x ∙ c .loop-j .inv .2,
+    )

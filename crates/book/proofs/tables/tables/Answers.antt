@@ -28,8 +28,9 @@ loop-t-again g c =
     let lt : k < length (c .loop-t .read) = omega arith in
     let new = c .table .last .out in
     let same = c .table .kept .out in
-    let count = count-more _ (c .loop-t .first) t (said .shape) (c .loop-t .read) k lt (c .loop-t .out) new (omega arith) same old (said .grown) in
-    (sofar-more _ _ _ _ _ _ _ _ _ _ so (tableOf new) (c .table .result) t _ _ _ _ (c .loop-t-test .taken) (c .in-Continue-next .was tt) (c .table .ensures .value) (c .table .ensures .same)
-        (tables-more _ (c .loop-t .first) t (said .shape) (c .loop-t .read) k lt (c .loop-t .out) new (omega arith) same old (said .grown))
-        (λ i. (k + 1, c .loop-t .first + sym count i)),
-      laid-more _ (c .loop-t .first) t (said .shape) (c .loop-t .read) k lt (c .loop-t .out) new (omega arith) same old (said .grown))
+    let count = count-more _ (c .loop-t .first) t (said .shape) (c .loop-t .read) k lt (c .loop-t .out) new (omega arith) same old (said .grown) in (
+      sofar-more _ _ _ _ _ _ _ _ _ _ so (tableOf new) (c .table .result) t _ _ _ _ (c .loop-t-test .taken) (c .in-Continue-next .was tt) (c .table .ensures .value) (c .table .ensures .same)
+          (tables-more _ (c .loop-t .first) t (said .shape) (c .loop-t .read) k lt (c .loop-t .out) new (omega arith) same old (said .grown))
+          (λ i. (k + 1, c .loop-t .first + sym count i)),
+      laid-more _ (c .loop-t .first) t (said .shape) (c .loop-t .read) k lt (c .loop-t .out) new (omega arith) same old (said .grown),
+    )

@@ -24,11 +24,12 @@ returns-in-Break-value g c =
 pub loop-j-again : need.loop-j-again
 loop-j-again g c =
     let so = c .loop-j .inv .0 in
-    let lt : c .loop-j .j < length (c .loop-j .read) = omega (arith, c .loop-j .inv .2) in
-    (sofar-more _ _ _ _ _ _ _ _ _ _ so (λ v. v) (c .within .result) (c .in-Continue-value .value) _ _ _ _ (c .loop-j-test .taken) (c .in-Continue-value .was tt) (c .within .ensures .value) (c .within .ensures .same)
-        (take-more-set (c .loop-j .read) (c .loop-j .j) (c .in-Continue-value .value) lt) refl,
+    let lt : c .loop-j .j < length (c .loop-j .read) = omega (arith, c .loop-j .inv .2) in (
+      sofar-more _ _ _ _ _ _ _ _ _ _ so (λ v. v) (c .within .result) (c .in-Continue-value .value) _ _ _ _ (c .loop-j-test .taken) (c .in-Continue-value .was tt) (c .within .ensures .value) (c .within .ensures .same)
+          (take-more-set (c .loop-j .read) (c .loop-j .j) (c .in-Continue-value .value) lt) refl,
       drop-set-lt (length (c .args .scope .now)) (c .loop-j .read) (c .loop-j .j) (c .in-Continue-value .value) (c .loop-j-test .taken) ∙ c .loop-j .inv .1,
-      length-set (c .loop-j .read) (c .loop-j .j) (c .in-Continue-value .value) ∙ c .loop-j .inv .2)
+      length-set (c .loop-j .read) (c .loop-j .j) (c .in-Continue-value .value) ∙ c .loop-j .inv .2,
+    )
 
 pub returns : need.returns
 returns g c =
