@@ -9,3 +9,6 @@ pub mod BookSteps
 pub mod Inversion
 pub mod FileNames
 pub mod ReadFile
+pub mod Rising
+pub mod ValidBooks
+pub mod Names

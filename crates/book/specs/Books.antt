@@ -1,7 +1,13 @@
 -- What a read book says.
-use mathlib.Core.List.{List}
-use Prim.Native.Nat.{ℕ, _-_}
-use lib.ListN.{length, take, drop}
+use mathlib.Core.Bool.{cond}
+use mathlib.Core.List.{List, []}
+use Prim.Native.Nat.{ℕ, _+_, _-_}
+use lib.Dec.{ltb}
+use lib.ListN.{length, getD, take, drop}
+use Rattle.std.specs.shelf.Lists.{sum}
+use Rattle.std.specs.declared.result.Result.{Result}
+use Rattle.std.specs.declared.result.Result.the-variants.{Ok, Err}
+use Rattle.questions.specs.declared.question.Question.{Question}
 use Rattle.book.specs.Contents.{Contents}
 use Rattle.book.specs.Layout.{contentsOf}
 use Rattle.book.specs.declared.index.TableIndex.{TableIndex}
@@ -19,3 +25,11 @@ rowsAt b = b .rows .now
 
 abbrev pub tablesAt : Book → List TableIndex
 tablesAt b = take (b .index .tables) (b .index .table)
+
+-- the byte of the file at which the name of an option begins
+abbrev pub namePlace : Book → ℕ → ℕ
+namePlace b option = length (b .file .now) - b .index .letters + sum (take option (b .index .lengths))
+
+-- the name of an option, or the refusal of an option that the book lacks
+abbrev pub named : Contents → ℕ → Result (List ℕ) Question
+named c option = cond (ltb option (length (c .sizes))) (Ok (getD (c .names) option [])) (Err Question.OptionKnown)
