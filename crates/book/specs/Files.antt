@@ -1,6 +1,6 @@
 -- The file as a source of fields.
 use mathlib.Core.List.{List}
-use Prim.Native.Nat.{ℕ, _+_, _-_, _*_, _%_}
+use Prim.Native.Nat.{ℕ, _+_, _-_, _*_}
 use lib.ListN.{length}
 use Rattle.std.specs.declared.option.Option.{Option}
 use Rattle.std.specs.declared.option.Option.the-variants.{Some, None}
@@ -10,25 +10,8 @@ use Rattle.bits.specs.Bits.{field}
 use Rattle.questions.specs.declared.question.Question.{Question}
 use Rattle.book.specs.declared.field.Field.{Field}
 use Rattle.book.specs.declared.field.Fault.{Fault}
+use Rattle.book.specs.Fields.{layout}
 use Rattle.book.specs.Readings.{Source, refuse}
-
--- how many bits a field has that begins at a bit, and what is added to their number; the end has none
-abbrev pub layout : Field → ℕ → Option (ℕ × ℕ)
-layout Field.Whole at = Some (0, 0)
-layout Field.Edition at = Some (8, 0)
-layout Field.Options at = Some (5, 0)
-layout Field.Tables at = Some (6, 0)
-layout (Field.Size i) at = Some (5, 1)
-layout (Field.NameLength i) at = Some (5, 0)
-layout (Field.Kind t) at = Some (1, 0)
-layout (Field.ScopeLength t) at = Some (2, 1)
-layout (Field.ScopeOption t j) at = Some (5, 0)
-layout (Field.RowCount t) at = Some (11, 0)
-layout (Field.Value t r j) at = Some (5, 0)
-layout (Field.Row t r) at = Some (0, 0)
-layout Field.Filling at = Some ((8 - at % 8) % 8, 0)
-layout (Field.NameByte k) at = Some (8, 0)
-layout Field.End at = None
 
 -- the number in a field's bits, if it ends inside the file
 abbrev pub spelled : Option ℕ → Field → ℕ → ℕ × ℕ → Result (ℕ × ℕ) Fault

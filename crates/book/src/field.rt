@@ -1,6 +1,8 @@
 // The fields of a book file, and what a refused reading tells.
 ghost use mathlib.Core.Path.{_≡_};
-ghost use Rattle.book.specs.Fields.{asked};
+ghost use Prim.Native.Nat.{_≤_};
+ghost use Rattle.std.specs.Options.{Cases};
+ghost use Rattle.book.specs.Fields.{asked, layout};
 use questions::Question;
 use questions::QuestionDebug;
 
@@ -54,6 +56,28 @@ impl Field {
             Field::RowCount(_) => Question::RowCount,
             Field::Value(_, _, _) | Field::Row(_, _) => Question::RowValue,
             Field::Filling | Field::NameByte(_) | Field::End => Question::Tail,
+        }
+    }
+
+    /// How many bits a field has that begins at a bit, and what is added to their number; the end has none.
+    pub fn layout(self, bit: usize) -> Option<(usize, usize)>
+        ensures value { λ r. ⌜ r ≡ layout self bit ⌝ }
+        ensures small { λ r. ⌜ Cases r (Unit {0}) (λ l. (l .0 ≤ 11) × (l .1 ≤ 1)) ⌝ }
+    {
+        match self {
+            Field::End => None,
+            Field::Whole | Field::Row(_, _) => Some((0, 0)),
+            Field::Edition | Field::NameByte(_) => Some((8, 0)),
+            Field::Options
+            | Field::NameLength(_)
+            | Field::ScopeOption(_, _)
+            | Field::Value(_, _, _) => Some((5, 0)),
+            Field::Tables => Some((6, 0)),
+            Field::Size(_) => Some((5, 1)),
+            Field::Kind(_) => Some((1, 0)),
+            Field::ScopeLength(_) => Some((2, 1)),
+            Field::RowCount(_) => Some((11, 0)),
+            Field::Filling => Some(((8 - bit % 8) % 8, 0)),
         }
     }
 }

@@ -1,3 +1,4 @@
+// Books: options with values, and tables of allowed rows, read from a packed file.
 mod book;
 mod field;
 mod file;
@@ -10,6 +11,10 @@ mod tables;
 pub use book::Book;
 pub use field::Fault;
 pub use field::Field;
+pub use file::FileSource;
 pub use index::Index;
 pub use index::Row;
 pub use index::TableIndex;
+pub use reader::book as read_from;
+pub use reader::read;
+pub use source::Source;
