@@ -7,6 +7,7 @@ mod options;
 mod reader;
 mod source;
 mod tables;
+mod words;
 
 pub use book::Book;
 pub use field::Fault;
@@ -18,3 +19,5 @@ pub use index::TableIndex;
 pub use reader::book as read_from;
 pub use reader::read;
 pub use source::Source;
+pub use words::FaultDisplay;
+pub use words::FieldDisplay;

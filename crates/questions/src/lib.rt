@@ -4,3 +4,4 @@ mod question;
 
 pub use question::Question;
 pub use question::QuestionDebug;
+pub use question::QuestionDisplay;
