@@ -29,7 +29,8 @@ impl<'a> Cursor<'a> {
     pub fn at(&self) -> usize
         ensures { λ r. ⌜ r ≡ now (self .entry) .at ⌝ }
     {
-        self.at
+        let bit = self.at;
+        bit
     }
 
     /// How many bits of the file are left.
