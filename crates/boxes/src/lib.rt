@@ -1,8 +1,21 @@
 // Boxes: what is remembered of a state of the search.
+ghost use mathlib.Core.Path.{_≡_};
+ghost use Rattle.std.specs.Orderings.{Decides};
 
 /// A box records, for some options, a set of values, in which value v is worth 2 to the power v.
 /// The empty set marks an option that is left out, and one that the book lacks.
-#[derive(Clone, Copy, PartialEq, Eq, Debug)]
+#[derive(Clone, Copy, Debug)]
 pub struct ValueBox {
     pub sets: [u32; 24],
 }
+
+/// Two boxes are equal when they have the same set at each of the 24 options.
+pub impl PartialEq<ValueBox> for ValueBox as ValueBoxPartialEq {
+    ghost equals = { λ x y r. Decides r (x ≡ y) };
+
+    fn eq(&self, other: &ValueBox) -> bool {
+        self.sets == other.sets
+    }
+}
+
+pub impl Eq for ValueBox as ValueBoxEq {}
