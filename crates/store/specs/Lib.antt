@@ -1,3 +1,4 @@
 pub mod Holdings
 pub mod Meaning
 pub mod Blank
+pub mod Ring

@@ -4,8 +4,8 @@ use crate::store::Store;
 use boxes::ValueBox;
 
 /// A store that never holds anything.
-#[derive(Clone, Copy, Debug)]
-pub struct BlankStore {}
+#[derive(Clone, Copy)]
+pub struct BlankStore;
 
 pub impl Store for BlankStore as BlankIsStore {
     ghost held = { blank .held };
