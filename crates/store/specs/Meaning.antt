@@ -7,8 +7,15 @@ use Rattle.store.specs.Holdings.{Nothing, Same, Grown}
 abbrev pub Meaning : Type 0 → Type 1
 Meaning S = Ghosts S
 
--- The three lines that every store keeps to.
-pub record Lawful {S : Type 0} (m : Meaning S) : Type 0 where
-  pub clears : (s t : S) → m .emptied s t → Nothing (m .held t)
-  pub keeps : (s : S) (b : ValueBox) (t : S) → m .looked s b t → Same (m .held s) (m .held t)
-  pub adds : (s : S) (b : ValueBox) (t : S) → m .told s b t → Grown (m .held s) b (m .held t)
+-- What each call of a store does, from s to t: the exact change, and what becomes of the boxes that are held.
+pub record Emptied {S : Type 0} (m : Meaning S) (s t : S) : Type 0 where
+  pub change : m .emptied s t
+  pub nothing : Nothing (m .held t)
+
+pub record Looked {S : Type 0} (m : Meaning S) (s : S) (b : ValueBox) (t : S) : Type 0 where
+  pub change : m .looked s b t
+  pub same : Same (m .held s) (m .held t)
+
+pub record Told {S : Type 0} (m : Meaning S) (s : S) (b : ValueBox) (t : S) : Type 0 where
+  pub change : m .told s b t
+  pub grown : Grown (m .held s) b (m .held t)

@@ -14,5 +14,6 @@ returns c =
     let all : k ≡ filled s = omega arith in
     record {
       answer = decides-newest (s .places) (s .next) 64 k (s .full) (c .args .sought .now) (c .contains .result) (search needs) all (has-from-contains _ _ _ (c .contains .ensures .cases));
-      after = refl;
+      change = refl;
+      same = search needs;
     }
