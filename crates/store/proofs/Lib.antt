@@ -1,5 +1,5 @@
 pub mod Members
 pub mod Turns
-pub mod Rotation
+pub mod Combining
 pub mod Filling
 pub mod Changes

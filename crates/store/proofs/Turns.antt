@@ -5,7 +5,10 @@ use mathlib.Core.Bool.{Bool, true, false, cond}
 use Prim.Native.Nat.{ℕ, suc, _+_, _-_, _<_, _≤_}
 use native.Mathlib.Omega.{arith}
 use lib.ListN.{length, getD, set, take, drop}
+use mathlib.Core.Logic.{inl, inr}
+use lib.Dec.{eqb}
 use Rattle.std.specs.Orderings.{Decides}
+use Rattle.std.proofs.shelf.Tests.{cases-bool, cond-true, cond-false, eqb-true}
 use Rattle.std.specs.shelf.Lists.{Has}
 use Rattle.std.proofs.shelf.Lists.{append-nil, append-assoc, reverse-append, length-append, length-reverse, length-take-le, length-drop, take-append-drop, take-more-set, drop-set-lt, drop-more, take-all, drop-all, take-at, length-set}
 use Rattle.store.specs.Ring.{newestFirst}
@@ -69,6 +72,18 @@ module _ {X : Type 0} where
   newest-put-last ps n m full b l e =
       let last : n + 1 ≡ length (set ps n b) = l ∙ sym (length-set ps n b ∙ e) in
       sym (ap (λ k. newestFirst (set ps n b) k full) last ∙ newest-round (set ps n b) full) ∙ newest-put ps n m full b (omega arith) e
+
+  -- one more in any place of a ring of m places, and on to the next
+  pub newest-told : (ps : List X) (n m : ℕ) (full : Bool) (b : X) (qs : List X) (k : ℕ) (g : Bool) → n < m → length ps ≡ m → qs ≡ set ps n b → k ≡ cond (eqb (n + 1) m) 0 (n + 1) → g ≡ cond (eqb (n + 1) m) true full → newestFirst qs k g ≡ take m (b ∷ newestFirst ps n full)
+  newest-told ps n m full b qs k g l e at on to =
+      elim (cases-bool (eqb (n + 1) m)) [
+        inl t ↦ let i = on ∙ cond-true (eqb (n + 1) m) 0 (n + 1) t in
+          let f = to ∙ cond-true (eqb (n + 1) m) true full t in
+          rw (at, i, f) (newest-put-last ps n m full b (eqb-true (n + 1) m t) e)
+      | inr t ↦ let i = on ∙ cond-false (eqb (n + 1) m) 0 (n + 1) t in
+          let f = to ∙ cond-false (eqb (n + 1) m) true full t in
+          rw (at, i, f) (newest-put ps n m full b l e)
+      ]
 
   -- a look at the places that count, in a ring of m places
   pub decides-newest : (ps : List X) (n m k : ℕ) (full : Bool) (x : X) (r : Bool) → length ps ≡ m → k ≡ cond full m n → Decides r (Has (take k ps) x) → Decides r (Has (newestFirst ps n full) x)

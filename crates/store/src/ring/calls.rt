@@ -2,7 +2,9 @@
 ghost use mathlib.Core.Path.{_≡_};
 ghost use mathlib.Core.List.{[]};
 ghost use Prim.Native.Nat.{_≤_};
-ghost use Rattle.store.specs.Ring.{ring, recent, filled};
+ghost use lib.ListN.{length};
+ghost use Rattle.std.specs.Orderings.{Decides};
+ghost use Rattle.store.specs.Ring.{ring, recent, filled, Put};
 use crate::ring::PLACES;
 use crate::ring::RingStore;
 use crate::store::Store;
@@ -28,6 +30,26 @@ impl RingStore {
     {
         if self.full { PLACES } else { self.next }
     }
+
+    // Whether one of the places that count has the box.
+    fn has(&self, sought: &ValueBox) -> bool
+        ensures { λ r. ⌜ Decides r (ring .held (now (self .entry)) (now (sought .entry))) ⌝ }
+    {
+        self.places[0..self.count()].contains(sought)
+    }
+
+    // Puts a box at the next place, and moves on.
+    fn put(&mut self, told: &ValueBox)
+        ensures fields { λ _. ⌜ Put (now (self .entry)) (now (told .entry)) (now (self .exit)) ⌝ }
+        ensures places { λ _. ⌜ length (now (self .entry) .places) ≡ 64 ⌝ }
+    {
+        self.places[self.next] = *told;
+        self.next += 1;
+        if self.next == PLACES {
+            self.next = 0;
+            self.full = true;
+        }
+    }
 }
 
 pub impl Store for RingStore as RingIsStore {
@@ -45,15 +67,10 @@ pub impl Store for RingStore as RingIsStore {
     }
 
     fn seen(&mut self, sought: &ValueBox) -> bool {
-        self.places[0..self.count()].contains(sought)
+        self.has(sought)
     }
 
     fn tell(&mut self, refuted: &ValueBox) {
-        self.places[self.next] = *refuted;
-        self.next += 1;
-        if self.next == PLACES {
-            self.next = 0;
-            self.full = true;
-        }
+        self.put(refuted);
     }
 }

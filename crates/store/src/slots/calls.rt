@@ -41,6 +41,14 @@ impl<'a> SlotStore<'a> {
     {
         key_of(named) as usize % self.slots.len()
     }
+
+    // Puts a box into the slot that its key names.
+    fn put(&mut self, told: &ValueBox)
+        ensures { λ _. ⌜ slotted .told (now (self .entry)) (now (told .entry)) (now (self .exit)) ⌝ }
+    {
+        let slot = self.slot_of(told);
+        self.slots[slot] = Some(*told);
+    }
 }
 
 pub impl<'a> Store for SlotStore<'a> as SlotIsStore {
@@ -66,7 +74,6 @@ pub impl<'a> Store for SlotStore<'a> as SlotIsStore {
     }
 
     fn tell(&mut self, refuted: &ValueBox) {
-        let slot = self.slot_of(refuted);
-        self.slots[slot] = Some(*refuted);
+        self.put(refuted);
     }
 }

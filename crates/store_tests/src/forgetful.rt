@@ -1,0 +1,50 @@
+// A store written from the trait alone.
+ghost use Rattle.store_tests.specs.Forgetful.{forgetful};
+use boxes::ValueBox;
+use boxes::ValueBoxPartialEq;
+use store::Store;
+
+/// A store of at most two boxes. It heeds only every other tell, then forgets the older of two boxes, and changes the order
+/// of its boxes at each look.
+#[derive(Drop)]
+pub struct ForgetfulStore {
+    pub first: Option<ValueBox>,
+    pub second: Option<ValueBox>,
+    pub heeds: bool,
+}
+
+// Whether a slot of the store has the box.
+fn has(place: &Option<ValueBox>, sought: &ValueBox) -> bool {
+    match place {
+        Some(known) => *known == *sought,
+        None => false,
+    }
+}
+
+pub impl Store for ForgetfulStore as ForgetfulIsStore {
+    ghost held = { forgetful .held };
+
+    ghost emptied = { forgetful .emptied };
+
+    ghost looked = { forgetful .looked };
+
+    ghost told = { forgetful .told };
+
+    fn empty(&mut self) {
+        self.first = None;
+        self.second = None;
+    }
+
+    fn seen(&mut self, sought: &ValueBox) -> bool {
+        std::mem::swap(&mut self.first, &mut self.second);
+        has(&self.first, sought) || has(&self.second, sought)
+    }
+
+    fn tell(&mut self, refuted: &ValueBox) {
+        if self.heeds {
+            self.second = self.first;
+            self.first = Some(*refuted);
+        }
+        self.heeds = !self.heeds;
+    }
+}

@@ -1,0 +1,4 @@
+// Examples of the stores, and a store of the tests' own.
+mod forgetful;
+
+fn main() {}
