@@ -77,12 +77,12 @@ module _ {X : Type 0} where
   pub newest-told : (ps : List X) (n m : ℕ) (full : Bool) (b : X) (qs : List X) (k : ℕ) (g : Bool) → n < m → length ps ≡ m → qs ≡ set ps n b → k ≡ cond (eqb (n + 1) m) 0 (n + 1) → g ≡ cond (eqb (n + 1) m) true full → newestFirst qs k g ≡ take m (b ∷ newestFirst ps n full)
   newest-told ps n m full b qs k g l e at on to =
       elim (cases-bool (eqb (n + 1) m)) [
-        inl t ↦ let i = on ∙ cond-true (eqb (n + 1) m) 0 (n + 1) t in
-          let f = to ∙ cond-true (eqb (n + 1) m) true full t in
-          rw (at, i, f) (newest-put-last ps n m full b (eqb-true (n + 1) m t) e)
-      | inr t ↦ let i = on ∙ cond-false (eqb (n + 1) m) 0 (n + 1) t in
-          let f = to ∙ cond-false (eqb (n + 1) m) true full t in
-          rw (at, i, f) (newest-put ps n m full b l e)
+        | inl t ↦ let i = on ∙ cond-true (eqb (n + 1) m) 0 (n + 1) t in
+            let f = to ∙ cond-true (eqb (n + 1) m) true full t in
+            rw (at, i, f) (newest-put-last ps n m full b (eqb-true (n + 1) m t) e)
+        | inr t ↦ let i = on ∙ cond-false (eqb (n + 1) m) 0 (n + 1) t in
+            let f = to ∙ cond-false (eqb (n + 1) m) true full t in
+            rw (at, i, f) (newest-put ps n m full b l e)
       ]
 
   -- a look at the places that count, in a ring of m places

@@ -1,4 +1,7 @@
 // A store written from the trait alone.
+ghost use mathlib.Core.Path.{_≡_};
+ghost use Rattle.std.specs.Orderings.{Decides};
+ghost use Rattle.std.specs.declared.option.Option.the-variants.{Some};
 ghost use Rattle.store_tests.specs.Forgetful.{forgetful};
 use boxes::ValueBox;
 use boxes::ValueBoxPartialEq;
@@ -13,8 +16,10 @@ pub struct ForgetfulStore {
     pub heeds: bool,
 }
 
-// Whether a slot of the store has the box.
-fn has(place: &Option<ValueBox>, sought: &ValueBox) -> bool {
+// Whether a place has the box.
+fn has(place: &Option<ValueBox>, sought: &ValueBox) -> bool
+    ensures { λ r. ⌜ Decides r (now (place .entry) ≡ Some (now (sought .entry))) ⌝ }
+{
     match place {
         Some(known) => *known == *sought,
         None => false,

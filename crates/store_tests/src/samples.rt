@@ -1,0 +1,38 @@
+// Boxes for the examples, and calls of any store.
+use boxes::ValueBox;
+use store::Store;
+
+// A box of one recorded option.
+pub fn single(option: usize, set: u32) -> ValueBox {
+    let mut sets = [0; 24];
+    if option < 24 {
+        sets[option] = set;
+    }
+    ValueBox { sets }
+}
+
+// The box that records nothing.
+pub fn nothing() -> ValueBox {
+    ValueBox { sets: [0; 24] }
+}
+
+// Tells the boxes numbered from the first on, up to and without the last.
+pub fn tell_numbered<S: Store>(store: &mut S, first: u32, last: u32) {
+    for n in first..last {
+        store.tell(&single(0, n));
+    }
+}
+
+// How many of those boxes the store holds.
+pub fn count_seen<S: Store>(store: &mut S, first: u32, last: u32) -> u32 {
+    let mut count = 0u32;
+    for n in first..last {
+        count = count.saturating_add(seen(store, &single(0, n)));
+    }
+    count
+}
+
+// 1 where the store holds the box, else 0.
+pub fn seen<S: Store>(store: &mut S, sought: &ValueBox) -> u32 {
+    if store.seen(sought) { 1 } else { 0 }
+}
