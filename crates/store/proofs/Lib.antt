@@ -3,3 +3,4 @@ pub mod Turns
 pub mod Combining
 pub mod Filling
 pub mod Changes
+pub mod Steps

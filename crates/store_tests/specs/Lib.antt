@@ -1,1 +1,2 @@
 pub mod Forgetful
+pub mod Samples

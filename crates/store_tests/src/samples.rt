@@ -1,4 +1,6 @@
 // Boxes for the examples, and calls of any store.
+ghost use Rattle.std.specs.Orderings.{Decides};
+ghost use Rattle.store_tests.specs.Samples.{Noted};
 use boxes::ValueBox;
 use store::Store;
 
@@ -14,6 +16,16 @@ pub fn single(option: usize, set: u32) -> ValueBox {
 // The box that records nothing.
 pub fn nothing() -> ValueBox {
     ValueBox { sets: [0; 24] }
+}
+
+// Whether any store holds the box, which it is told then.
+pub fn note<S: Store>(store: &mut S, refuted: &ValueBox) -> bool
+    ensures answer { λ r. ⌜ Decides r (held (now (store .entry)) (now (refuted .entry))) ⌝ }
+    ensures change { λ _. ⌜ Noted S·Store (now (store .entry)) (now (refuted .entry)) (now (store .exit)) ⌝ }
+{
+    let known = store.seen(refuted);
+    store.tell(refuted);
+    known
 }
 
 // Tells the boxes numbered from the first on, up to and without the last.

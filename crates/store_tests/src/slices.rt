@@ -1,9 +1,19 @@
 // Examples of the slot store.
+ghost use mathlib.Core.Path.{_≡_};
+ghost use Prim.Native.Nat.{_%_};
+ghost use lib.ListN.{length, set};
+ghost use Rattle.std.specs.declared.option.Option.the-variants.{Some};
+ghost use Rattle.store.specs.Key.{key};
+ghost use Rattle.store.specs.Making.{Sized};
+ghost use Rattle.store.specs.Slots.{slotOf};
+ghost use Rattle.store_tests.specs.Samples.{worked};
 use crate::samples::count_seen;
+use crate::samples::note;
 use crate::samples::nothing;
 use crate::samples::seen;
 use crate::samples::single;
 use crate::samples::tell_numbered;
+use boxes::ValueBox;
 use questions::Question;
 use store::Slot;
 use store::SlotIsStore;
@@ -30,13 +40,34 @@ fn taken(slots: &[Slot]) -> u32 {
     count
 }
 
+// The key of a box that records values 30, then 0 and 2, then 1 and 2 of its last three options.
+pub fn worked_key() -> u32
+    ensures is { λ r. ⌜ r ≡ key worked ⌝ }
+    ensures number { λ _. ⌜ key worked ≡ 422 ⌝ }
+{
+    let mut sets = [0; 24];
+    sets[21] = 1 << 30;
+    sets[22] = 5;
+    sets[23] = 6;
+    key_of(&ValueBox { sets })
+}
+
+// A look and a tell over a slice of slots: once the store has gone, the slice has the box in the slot that its key names.
+pub fn note_in(slots: &mut [Slot], refuted: &ValueBox) -> bool
+    requires { ⌜ Sized (length (now slots)) ⌝ }
+    ensures { λ _. ⌜ now (slots .exit) ≡ set (now (slots .entry)) (slotOf (now (slots .entry)) (now (refuted .entry))) (Some (now (refuted .entry))) ⌝ }
+{
+    let mut store = SlotStore::over(slots);
+    note(&mut store, refuted)
+}
+
 // 1 to 512 slots, and not 0 or 513.
 pub fn lengths() -> [u32; 4] {
     let slots: [Slot; 513] = [None; 513];
-    let none = refusal(SlotStore::ask(&slots[0..0]));
-    let one = refusal(SlotStore::ask(&slots[0..1]));
-    let most = refusal(SlotStore::ask(&slots[0..512]));
-    [none, one, most, refusal(SlotStore::ask(&slots))]
+    let none = refusal(SlotStore::check(&slots[0..0]));
+    let one = refusal(SlotStore::check(&slots[0..1]));
+    let most = refusal(SlotStore::check(&slots[0..512]));
+    [none, one, most, refusal(SlotStore::check(&slots))]
 }
 
 // In one slot a told box takes the place of the one before; the box that records nothing is not a vacant slot.
@@ -95,11 +126,8 @@ pub fn finds_boxes() -> [u32; 4] {
 // Emptying makes every slot vacant.
 pub fn empties() -> [u32; 2] {
     let mut slots: [Slot; 8] = [None; 8];
-    {
-        let mut store = SlotStore::over(&mut slots);
-        store.tell(&single(23, 5));
-        store.tell(&single(23, 6));
-    }
+    let _ = note_in(&mut slots, &single(23, 5));
+    let _ = note_in(&mut slots, &single(23, 6));
     let before = taken(&slots);
     {
         let mut store = SlotStore::over(&mut slots);

@@ -16,7 +16,7 @@ use questions::Question;
 
 impl<'a> SlotStore<'a> {
     /// Asks whether a store can be laid over the slots: are they 1 to 512?
-    pub fn ask(slots: &[Slot]) -> Result<(), Question>
+    pub fn check(slots: &[Slot]) -> Result<(), Question>
         ensures { λ r. ⌜ Cases r (λ _. Sized (length (now (slots .entry)))) (λ q. (q ≡ Slots) × (Sized (length (now (slots .entry))) → ⊥)) ⌝ }
     {
         if slots.is_empty() || slots.len() > 512 {
@@ -26,7 +26,7 @@ impl<'a> SlotStore<'a> {
     }
 
     /// Lays a store over the slots, and changes none of them: a box that lies in the slot its key names is held from now
-    /// on. It cannot refuse, and is called after the yes of `ask`.
+    /// on. It cannot refuse, and is called after the yes of `check`.
     pub fn over(slots: &'a mut [Slot]) -> SlotStore<'a>
         requires { ⌜ Sized (length (now slots)) ⌝ }
         ensures slots { λ r. ⌜ slotsOf r ≡ now (slots .entry) ⌝ }
