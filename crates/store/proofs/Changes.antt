@@ -1,7 +1,7 @@
 -- What becomes of the boxes that are held, from the exact change of a store.
 use mathlib.Core.Path.{_≡_, sym, ap, subst, _∙_}
 use mathlib.Core.List.{List, _∷_}
-use mathlib.Core.Logic.{_⊎_, inl, inr}
+use mathlib.Core.Logic.{inl, inr}
 use Prim.Native.Nat.{ℕ, _<_, _≤_, _%_}
 use native.Mathlib.Omega.{arith}
 use lib.ListN.{length, getD, set, take, replicate}
@@ -14,11 +14,17 @@ use Rattle.std.proofs.shelf.Bits.{mod-below}
 use Rattle.boxes.specs.declared.ValueBox.{ValueBox}
 use Rattle.store.specs.Holdings.{Nothing, Grown}
 use Rattle.store.specs.Key.{key}
+use Rattle.store.specs.declared.ring.RingStore.{RingStore}
+use Rattle.store.specs.Ring.{recent, Put}
 use Rattle.store.specs.Slots.{slotOf, Lies}
 use Rattle.store.proofs.Members.{has-told}
+use Rattle.store.proofs.Turns.{newest-told}
 
-pub ring-grown : (xs ys : List ValueBox) (n : ℕ) (b : ValueBox) → ys ≡ take n (b ∷ xs) → Grown (Has xs) b (Has ys)
-ring-grown xs ys n b e x h = has-told n b xs x (subst (λ zs. Has zs x) e h)
+pub ring-told : (s t : RingStore) (b : ValueBox) → Put s b t → length (s .places) ≡ 64 → recent t ≡ take 64 (b ∷ recent s)
+ring-told s t b p e = newest-told (s .places) (s .next) 64 (s .full) b (t .places) (t .next) (t .full) (s .within) e (p .places) (p .next) (p .full)
+
+pub ring-grown : (s t : RingStore) (b : ValueBox) → recent t ≡ take 64 (b ∷ recent s) → Grown (Has (recent s)) b (Has (recent t))
+ring-grown s t b e x h = has-told 64 b (recent s) x (subst (λ zs. Has zs x) e h)
 
 pub slots-nothing : (ts : List (Option ValueBox)) (n : ℕ) → 1 ≤ n → ts ≡ replicate n None → Nothing (Lies ts)
 slots-nothing ts n l e x h =

@@ -2,9 +2,9 @@
 use mathlib.Core.Path.{_≡_, refl, sym, subst, _∙_}
 use mathlib.Core.List.{List, [], _∷_, _++_, reverse}
 use mathlib.Core.Logic.{_⊎_, inl, inr}
-use Prim.Native.Nat.{ℕ, zero, suc, _+_, _-_, _<_, _≤_}
+use Prim.Native.Nat.{ℕ, zero, suc, _+_, _-_, _<_}
 use native.Mathlib.Omega.{arith}
-use lib.ListN.{length, getD, take}
+use lib.ListN.{length, take}
 use Rattle.std.specs.shelf.Lists.{Has}
 use Rattle.std.proofs.shelf.Lists.{getD-reverse, length-reverse, reverse-reverse}
 use Rattle.std.proofs.shelf.Elements.{has-append-left, has-append-right}

@@ -1,13 +1,15 @@
 -- A ring in its places: how many it has, which, and one more put into it.
-use mathlib.Core.Path.{_≡_, refl, sym, ap, subst, _∙_}
+use mathlib.Core.Path.{_≡_, sym, ap, subst, _∙_}
 use mathlib.Core.List.{List, [], _∷_, _++_, reverse}
 use mathlib.Core.Bool.{Bool, true, false, cond}
-use Prim.Native.Nat.{ℕ, suc, _+_, _-_, _<_, _≤_}
+use Prim.Native.Nat.{ℕ, _+_, _-_, _<_, _≤_}
 use native.Mathlib.Omega.{arith}
 use lib.ListN.{length, getD, set, take, drop}
 use mathlib.Core.Logic.{inl, inr}
 use lib.Dec.{eqb}
 use Rattle.std.specs.Orderings.{Decides}
+use Rattle.std.specs.Places.{Some-of}
+use Rattle.std.proofs.shelf.Elements.{has-from-contains}
 use Rattle.std.proofs.shelf.Tests.{cases-bool, cond-true, cond-false, eqb-true}
 use Rattle.std.specs.shelf.Lists.{Has}
 use Rattle.std.proofs.shelf.Lists.{append-nil, append-assoc, reverse-append, length-append, length-reverse, length-take-le, length-drop, take-append-drop, take-more-set, drop-set-lt, drop-more, take-all, drop-all, take-at, length-set}
@@ -86,9 +88,9 @@ module _ {X : Type 0} where
       ]
 
   -- a look at the places that count, in a ring of m places
-  pub decides-newest : (ps : List X) (n m k : ℕ) (full : Bool) (x : X) (r : Bool) → length ps ≡ m → k ≡ cond full m n → Decides r (Has (take k ps) x) → Decides r (Has (newestFirst ps n full) x)
-  decides-newest ps n m k full x r e c d =
+  pub decides-newest : (ps : List X) (n m k : ℕ) (full : Bool) (x : X) (r : Bool) → Some-of (λ y t. Decides t (y ≡ x)) (take k ps) r → k ≡ cond full m n → length ps ≡ m → Decides r (Has (newestFirst ps n full) x)
+  decides-newest ps n m k full x r h c e =
       let all : k ≡ cond full (length ps) n = c ∙ ap (λ j. cond full j n) (sym e) in
       let D : ℕ → Type 0 = λ j. Decides r (Has (take j ps) x) in
-      let h = subst D all d in
-      ((λ t. has-newest ps n full x (h .0 t)), (λ t. h .1 (newest-has ps n full x t)))
+      let d = subst D all (has-from-contains (take k ps) x r h) in
+      ((λ t. has-newest ps n full x (d .0 t)), (λ t. d .1 (newest-has ps n full x t)))

@@ -1,6 +1,5 @@
 -- The meaning of the store that never holds anything.
 use mathlib.Core.Path.{_≡_}
-use Rattle.boxes.specs.declared.ValueBox.{ValueBox}
 use Rattle.store.specs.declared.blank.BlankStore.{BlankStore}
 use Rattle.store.specs.Meaning.{Meaning}
 

@@ -61,6 +61,7 @@ fn main(rt: LibcRuntime) -> io::Result<()> {
         "1 slot, the empty box before and after its tell, then told 3 more, the empty box",
         &slices::overwrites(),
     )?;
+    show(rt, "the key worked by hand", &[slices::worked_key()])?;
     show(
         rt,
         "one key, told the first, both, told the second, both",
