@@ -9,12 +9,19 @@ pub struct ValueBox {
     pub sets: [u32; 24],
 }
 
+// Whether two lists of sets are the same.
+fn same_sets(one: &[u32; 24], other: &[u32; 24]) -> bool
+    ensures { λ r. ⌜ Decides r (now (one .entry) ≡ now (other .entry)) ⌝ }
+{
+    *one == *other
+}
+
 /// Two boxes are equal when they have the same set at each of the 24 options.
 pub impl PartialEq<ValueBox> for ValueBox as ValueBoxPartialEq {
     ghost equals = { λ x y r. Decides r (x ≡ y) };
 
     fn eq(&self, other: &ValueBox) -> bool {
-        self.sets == other.sets
+        same_sets(&self.sets, &other.sets)
     }
 }
 
