@@ -1,7 +1,6 @@
 -- Over which slices a slot store can be laid.
 use Prim.Native.Nat.{ℕ, _≤_}
 
--- 1 to 512 slots
-pub record Sized (n : ℕ) : Type 0 where
-  pub some : 1 ≤ n
-  pub few : n ≤ 512
+-- of 1 to 512 slots
+abbrev pub Sized : ℕ → Type 0
+Sized n = (1 ≤ n) × (n ≤ 512)

@@ -19,3 +19,7 @@ pub record Looked {S : Type 0} (m : Meaning S) (s : S) (b : ValueBox) (t : S) : 
 pub record Told {S : Type 0} (m : Meaning S) (s : S) (b : ValueBox) (t : S) : Type 0 where
   pub change : m .told s b t
   pub grown : Grown (m .held s) b (m .held t)
+
+-- each box that the store holds has the property P
+abbrev pub HoldsOnly : {S : Type 0} → Meaning S → (ValueBox → Type 0) → S → Type 0
+HoldsOnly m P s = (x : ValueBox) → m .held s x → P x

@@ -1,7 +1,7 @@
 // The store over a slice of slots.
-ghost use Prim.Native.Nat.{_≤_};
 ghost use denote.Ref.{now as behind};
 ghost use lib.ListN.{length};
+ghost use Rattle.store.specs.Making.{Sized};
 use boxes::ValueBox;
 
 /// A slot is vacant or has one box.
@@ -11,8 +11,7 @@ pub type Slot = Option<ValueBox>;
 #[derive(Drop)]
 pub struct SlotStore<'a> {
     slots: &'a mut [Slot],
-    ghost some: { 1 ≤ length (behind slots) },
-    ghost few: { length (behind slots) ≤ 512 },
+    ghost sized: { Sized (length (behind slots)) },
 }
 
 mod calls;
