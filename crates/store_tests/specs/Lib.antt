@@ -1,0 +1,2 @@
+pub mod Forgetful
+pub mod Samples
