@@ -1,0 +1,4 @@
+pub mod Sets
+pub mod Support
+pub mod Propagation
+pub mod Steps

@@ -1,0 +1,33 @@
+-- Propagation: the largest sets inside given ones in which every value has support.
+use mathlib.Core.Path.{_≡_}
+use mathlib.Core.List.{List}
+use Prim.Native.Nat.{ℕ, _<_, _≤_}
+use lib.ListN.{length, getD}
+use Rattle.book.specs.Contents.{Contents}
+use Rattle.propagate.specs.Sets.{Sets, In, Inside, setsOf}
+use Rattle.propagate.specs.Support.{Closed}
+use Rattle.propagate.specs.declared.outcome.Outcome.{Outcome}
+use Rattle.propagate.specs.declared.outcome.Outcome.the-variants.{Narrowed, Emptied}
+
+-- the largest sets inside the start in which every value has support in every table whose scope has its option
+pub record Largest (c : Contents) (start end : Sets) : Type 0 where
+  pub inside : Inside end start
+  pub closed : Closed (c .tables) end
+  pub largest : (other : Sets) → Inside other start → Closed (c .tables) other → Inside other end
+
+-- An array that holds them, none of them empty: the digits for values that an option lacks are gone, and the places of options that the book lacks are as they were.
+pub record Propagated (c : Contents) (start end : List ℕ) : Type 0 where
+  pub largest : Largest c (setsOf c start) (setsOf c end)
+  pub some : (x : ℕ) → x < length (c .sizes) → 0 < getD end x 0
+  pub exact : (x : ℕ) → x < length (c .sizes) → getD end x 0 ≡ setsOf c end x
+  pub rest : (x : ℕ) → length (c .sizes) ≤ x → getD end x 0 ≡ getD start x 0
+
+-- Some option keeps no value: no sets inside the start in which every value has support give it one, so the largest do not.
+abbrev pub LeavesNone : Contents → List ℕ → Type 0
+LeavesNone c start =
+    (x : ℕ) × (x < length (c .sizes)) × ((other : Sets) → Inside other (setsOf c start) → Closed (c .tables) other → (v : ℕ) → In (other x) v → ⊥)
+
+-- How propagation ends, and with what in the array; where it leaves an option no value, the array is as it was.
+abbrev pub Ends : Contents → List ℕ → Outcome → List ℕ → Type 0
+Ends c start Narrowed end = Propagated c start end
+Ends c start Emptied end = LeavesNone c start × (end ≡ start)

@@ -1,0 +1,28 @@
+-- What the steps of propagation promise one another.
+use mathlib.Core.Path.{_≡_}
+use mathlib.Core.Bool.{Bool, true, false}
+use mathlib.Core.List.{List, map}
+use Prim.Native.Nat.{ℕ, _<_, _≤_}
+use lib.ListN.{length, getD, take}
+use Rattle.std.specs.shelf.Lists.{sum}
+use Rattle.book.specs.Contents.{Table}
+use Rattle.propagate.specs.Sets.{Sets, In, Inside, placed}
+use Rattle.propagate.specs.Support.{Support}
+
+-- the table whose rows are the first places of these
+abbrev pub tableFrom : List ℕ → List (List ℕ) → Table
+tableFrom scope rows = record { scope = scope; rows = map (take (length scope)) rows }
+
+-- at each place of the scope, the values that have support there
+pub record Collects (sets : Sets) (t : Table) (seen : List ℕ) : Type 0 where
+  pub sound : (j v : ℕ) → j < length (t .scope) → In (getD seen j 0) v → Support sets t j v
+  pub whole : (j v : ℕ) → j < length (t .scope) → Support sets t j v → In (getD seen j 0) v
+
+-- One step towards sets with the property C, in a book of so many options: nothing is put in, nothing that sets with C have is taken away,
+-- the other places are left alone, and where nothing changed the sets have C.
+pub record Cut (options : ℕ) (C : Sets → Type 0) (before after : List ℕ) (changed : Bool) : Type 0 where
+  pub smaller : Inside (placed after) (placed before)
+  pub keeps : (other : Sets) → Inside other (placed before) → C other → Inside other (placed after)
+  pub same : changed ≡ false → (after ≡ before) × C (placed after)
+  pub less : changed ≡ true → sum after < sum before
+  pub rest : (x : ℕ) → options ≤ x → getD after x 0 ≡ getD before x 0
