@@ -1,2 +1,3 @@
 pub mod Digits
 pub mod Windows
+pub mod Living

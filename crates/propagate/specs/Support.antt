@@ -1,7 +1,9 @@
 -- Live rows, and the values that have support.
 use mathlib.Core.Path.{_≡_}
-use mathlib.Core.List.{List}
-use Prim.Native.Nat.{ℕ, _<_}
+use mathlib.Core.Bool.{Bool, true, false, _&&_}
+use mathlib.Core.List.{List, [], _∷_}
+use Prim.Native.Nat.{ℕ, _/_, _%_, _^_, _<_}
+use lib.Dec.{eqb}
 use lib.ListN.{length, getD}
 use Rattle.std.specs.shelf.Lists.{All, Each}
 use Rattle.book.specs.Contents.{Table, Contents, Listed}
@@ -26,3 +28,13 @@ Upheld t sets = (j v : ℕ) → j < length (t .scope) → In (sets (getD (t .sco
 -- every value has support in every table whose scope has its option
 abbrev pub Closed : List Table → Sets → Type 0
 Closed tables sets = All (λ t. Upheld t sets) tables
+
+-- Live as a test, to count by
+abbrev pub isIn : ℕ → ℕ → Bool
+isIn s v = eqb (s / 2 ^ v % 2) 1
+
+abbrev pub isLive : Sets → List ℕ → List ℕ → Bool
+isLive sets [] [] = true
+isLive sets [] (v ∷ row) = false
+isLive sets (x ∷ scope) [] = false
+isLive sets (x ∷ scope) (v ∷ row) = isIn (sets x) v && isLive sets scope row

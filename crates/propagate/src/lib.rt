@@ -1,6 +1,7 @@
 // Propagation: from given value sets to the largest inside them in which every value has support.
 mod layout;
 mod outcome;
+mod rows;
 mod sets;
 
 pub use outcome::Outcome;
