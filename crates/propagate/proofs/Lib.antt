@@ -1,3 +1,4 @@
 pub mod Digits
 pub mod Windows
 pub mod Living
+pub mod Collected

@@ -45,3 +45,23 @@ fn add(values: [u32; 4], row: &Row) -> [u32; 4]
         values[3] | 1 << (row[3] % 32),
     ]
 }
+
+/// Counts the live rows, and collects the values that they hold at each place of the scope.
+pub fn support(rows: &[Row], scope: &[u8], sets: &[u32; 24]) -> Supported
+    requires few { ⌜ length (now scope) ≤ 4 ⌝ }
+    requires known { ⌜ ((j : ℕ) → j < length (now scope) → getD (now scope) j 0 < 24) ⌝ }
+    requires small { ⌜ ((r j : ℕ) → r < length (now rows) → j < length (now scope) → getD (getD (now rows) r []) j 0 < 32) ⌝ }
+    ensures values { λ r. ⌜ Collects (placed (now (sets .entry))) (tableFrom (now (scope .entry)) (now (rows .entry))) (r .values) ⌝ }
+    ensures count { λ r. ⌜ r .live ≡ countBy (isLive (placed (now (sets .entry))) (now (scope .entry))) (tableFrom (now (scope .entry)) (now (rows .entry)) .rows) ⌝ }
+{
+    let mut values = [0; 4];
+    let mut count = 0;
+    for row in rows {
+        if live(row, scope, sets) {
+            let next = add(values, row);
+            values = next;
+            count += 1;
+        }
+    }
+    Supported { values, live: count }
+}
