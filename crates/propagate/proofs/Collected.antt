@@ -30,8 +30,9 @@ module _ (rows : List (List ℕ)) (new : List ℕ) where
 
   listed-cases : (row : List ℕ) → Listed (rows ++ new ∷ []) row → Listed rows row ⊎ (new ≡ row)
   listed-cases row (i, l, e) = elim (cases-lt i (length rows)) [
-      inl h ↦ inl (i, h, sym (getD-append-left rows (new ∷ []) [] i h) ∙ e)
-    | inr g ↦ inr (sym (getD-push rows new [] i (omega (arith, length-push rows new))) ∙ e) ]
+    | inl h ↦ inl (i, h, sym (getD-append-left rows (new ∷ []) [] i h) ∙ e)
+    | inr g ↦ inr (sym (getD-push rows new [] i (omega (arith, length-push rows new))) ∙ e)
+  ]
 
 abbrev with : List ℕ → List (List ℕ) → Table
 with scope rows = record { scope = scope; rows = rows }
@@ -43,8 +44,9 @@ module _ (sets : Sets) (scope : List ℕ) (rows : List (List ℕ)) (new : List �
   -- what has support with the new row has it in the new row, or had it before
   support-cases : (j v : ℕ) → Support sets (with scope (rows ++ new ∷ [])) j v → Support sets (with scope rows) j v ⊎ (Live sets scope new × (getD new j 0 ≡ v))
   support-cases j v (row, at, alive, e) = elim (listed-cases rows new row at) [
-      inl old ↦ inl (row, old, alive, e)
-    | inr is ↦ inr (subst (λ r. Live sets scope r × (getD r j 0 ≡ v)) (sym is) (alive, e)) ]
+    | inl old ↦ inl (row, old, alive, e)
+    | inr is ↦ inr (subst (λ r. Live sets scope r × (getD r j 0 ≡ v)) (sym is) (alive, e))
+  ]
 
   collects-no : (seen : List ℕ) → (Live sets scope new → ⊥) → Collects sets (with scope rows) seen → Collects sets (with scope (rows ++ new ∷ [])) seen
   collects-no seen dead all = record {
@@ -57,11 +59,13 @@ module _ (sets : Sets) (scope : List ℕ) (rows : List (List ℕ)) (new : List �
       → Collects sets (with scope rows) seen → Collects sets (with scope (rows ++ new ∷ [])) next
   collects-yes seen next alive is all = record {
     sound = λ j v l h. elim (in-either (getD seen j 0) (2 ^ getD new j 0) v (subst (λ x. In x v) (is j l) h)) [
-        inl old ↦ support-old j v (all .sound j v l old)
-      | inr one ↦ (new, listed-new rows new, alive, sym (in-one-only (getD new j 0) v one)) ];
+      | inl old ↦ support-old j v (all .sound j v l old)
+      | inr one ↦ (new, listed-new rows new, alive, sym (in-one-only (getD new j 0) v one))
+    ];
     whole = λ j v l s. subst (λ x. In x v) (sym (is j l)) (in-or (getD seen j 0) (2 ^ getD new j 0) v (elim (support-cases j v s) [
-        inl t ↦ inl (all .whole j v l t)
-      | inr p ↦ inr (subst (λ x. In (2 ^ getD new j 0) x) (p .1) (in-one _)) ]));
+      | inl t ↦ inl (all .whole j v l t)
+      | inr p ↦ inr (subst (λ x. In (2 ^ getD new j 0) x) (p .1) (in-one _))
+    ]));
   }
 
 pub collects-none : (sets : Sets) (scope : List ℕ) → length scope ≤ 4 → Collects sets (with scope []) (replicate 4 0)
@@ -96,7 +100,7 @@ module _ (sets : Sets) (scope : List ℕ) (rows : List (List ℕ)) (m : ℕ) (wi
   pub found-no : Decides false (Live sets scope (take (length scope) (getD rows m []))) → Found sets scope rows m seen count → Found sets scope rows (m + 1) seen count
   found-no d old = record {
     values = subst (λ rs. Collects sets (with scope rs) seen) (sym more)
-      (collects-no sets scope (map (take (length scope)) (take m rows)) (take (length scope) (getD rows m [])) seen (λ h. true≢false (sym (d .1 h))) (old .values));
+        (collects-no sets scope (map (take (length scope)) (take m rows)) (take (length scope) (getD rows m [])) seen (λ h. true≢false (sym (d .1 h))) (old .values));
     live = omega (arith, old .live, counted false d);
     few = omega (arith, old .few);
   }
@@ -107,7 +111,7 @@ module _ (sets : Sets) (scope : List ℕ) (rows : List (List ℕ)) (m : ℕ) (wi
       → Found sets scope rows m seen count → Found sets scope rows (m + 1) next (count + 1)
   found-yes next d is small old = record {
     values = subst (λ rs. Collects sets (with scope rs) next) (sym more)
-      (collects-yes sets scope (map (take (length scope)) (take m rows)) (take (length scope) (getD rows m [])) seen next (d .0 refl)
+        (collects-yes sets scope (map (take (length scope)) (take m rows)) (take (length scope) (getD rows m [])) seen next (d .0 refl)
         (λ j l. is j l ∙ ap (λ v. bitOr (getD seen j 0) (2 ^ v)) (mod-eq-of-lt (small j l) ∙ sym (getD-take (length scope) (getD rows m []) j 0 l))) (old .values));
     live = omega (arith, old .live, counted true d);
     few = omega (arith, old .few);

@@ -2,3 +2,5 @@ pub mod Digits
 pub mod Windows
 pub mod Living
 pub mod Collected
+pub mod Books
+pub mod Cuts

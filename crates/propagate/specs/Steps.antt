@@ -1,13 +1,19 @@
 -- What the steps of propagation promise one another.
 use mathlib.Core.Path.{_≡_}
 use mathlib.Core.Bool.{Bool, true, false}
-use mathlib.Core.List.{List, map}
+use mathlib.Core.List.{List, [], map}
 use Prim.Native.Nat.{ℕ, _<_, _≤_}
 use lib.ListN.{length, getD, take}
 use Rattle.std.specs.shelf.Lists.{sum}
 use Rattle.book.specs.Contents.{Table}
 use Rattle.propagate.specs.Sets.{Sets, In, Inside, placed}
 use Rattle.propagate.specs.Support.{Support}
+
+-- a scope and rows that a pass can read: the scope names options, and the places that it has in a row hold values
+pub record Readable (scope : List ℕ) (rows : List (List ℕ)) : Type 0 where
+  pub few : length scope ≤ 4
+  pub known : (j : ℕ) → j < length scope → getD scope j 0 < 24
+  pub small : (r j : ℕ) → r < length rows → j < length scope → getD (getD rows r []) j 0 < 32
 
 -- the table whose rows are the first places of these
 abbrev pub tableFrom : List ℕ → List (List ℕ) → Table

@@ -3,6 +3,7 @@ mod layout;
 mod outcome;
 mod rows;
 mod sets;
+mod tables;
 
 pub use outcome::Outcome;
 pub use sets::ValueSets;

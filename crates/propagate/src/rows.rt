@@ -1,6 +1,5 @@
 // The rows of one table: which are live, and which values have support.
 ghost use mathlib.Core.Path.{_≡_};
-ghost use mathlib.Core.List.{[], map};
 ghost use Prim.Native.Nat.{ℕ, _%_, _^_, _<_, _≤_};
 ghost use lib.ListN.{length, getD, take};
 ghost use lib.Bits.{bitOr};
@@ -8,7 +7,7 @@ ghost use Rattle.std.specs.Orderings.{Decides};
 ghost use Rattle.std.specs.shelf.Lists.{countBy};
 ghost use Rattle.propagate.specs.Sets.{placed};
 ghost use Rattle.propagate.specs.Support.{Live, isLive};
-ghost use Rattle.propagate.specs.Steps.{Collects, tableFrom};
+ghost use Rattle.propagate.specs.Steps.{Readable, Collects, tableFrom};
 use crate::sets::has;
 use book::Row;
 
@@ -48,9 +47,7 @@ fn add(values: [u32; 4], row: &Row) -> [u32; 4]
 
 /// Counts the live rows, and collects the values that they hold at each place of the scope.
 pub fn support(rows: &[Row], scope: &[u8], sets: &[u32; 24]) -> Supported
-    requires few { ⌜ length (now scope) ≤ 4 ⌝ }
-    requires known { ⌜ ((j : ℕ) → j < length (now scope) → getD (now scope) j 0 < 24) ⌝ }
-    requires small { ⌜ ((r j : ℕ) → r < length (now rows) → j < length (now scope) → getD (getD (now rows) r []) j 0 < 32) ⌝ }
+    requires { ⌜ Readable (now scope) (now rows) ⌝ }
     ensures values { λ r. ⌜ Collects (placed (now (sets .entry))) (tableFrom (now (scope .entry)) (now (rows .entry))) (r .values) ⌝ }
     ensures count { λ r. ⌜ r .live ≡ countBy (isLive (placed (now (sets .entry))) (now (scope .entry))) (tableFrom (now (scope .entry)) (now (rows .entry)) .rows) ⌝ }
 {
@@ -63,5 +60,8 @@ pub fn support(rows: &[Row], scope: &[u8], sets: &[u32; 24]) -> Supported
             count += 1;
         }
     }
-    Supported { values, live: count }
+    Supported {
+        values,
+        live: count,
+    }
 }

@@ -12,9 +12,10 @@ pub returns-then-not-has : need.returns-then-not-has
 returns-then-not-has c =
     let long : length (c .args .scope .now) ≤ length (c .args .row .now) = omega (arith, c .pre .few) in
     let j = c .loop-j .j in
-    let here : j < length (c .args .scope .now) = omega arith in
-    (λ e. absurd (false≢true e),
-     λ l. let h : In (getD (c .args .sets .now) (getD (c .args .scope .now) j 0) 0) (getD (c .args .row .now) j 0) = if-live (placed (c .args .sets .now)) (c .args .scope .now) (c .args .row .now) long l j here in search needs)
+    let here : j < length (c .args .scope .now) = omega arith in (
+      λ e. absurd (false≢true e),
+      λ l. let h : In (getD (c .args .sets .now) (getD (c .args .scope .now) j 0) 0) (getD (c .args .row .now) j 0) = if-live (placed (c .args .sets .now)) (c .args .scope .now) (c .args .row .now) long l j here in search needs,
+    )
 
 pub returns : need.returns
 returns c =
