@@ -1,10 +1,12 @@
 // Takes values without support out of the sets, table by table.
-ghost use Prim.Native.Nat.{ℕ};
-ghost use lib.ListN.{length};
+ghost use mathlib.Core.Path.{_≡_};
+ghost use Prim.Native.Nat.{ℕ, _<_};
+ghost use lib.ListN.{length, getD};
+ghost use Rattle.std.specs.Orderings.{Decides};
 ghost use Rattle.std.specs.shelf.Lists.{Has};
 ghost use Rattle.book.specs.Layout.{tableOf};
 ghost use Rattle.book.specs.Books.{contents, rowsAt, tablesAt};
-ghost use Rattle.propagate.specs.Support.{Upheld};
+ghost use Rattle.propagate.specs.Support.{Upheld, Closed};
 ghost use Rattle.propagate.specs.Steps.{Cut};
 use crate::layout::rows_of;
 use crate::layout::scope_of;
@@ -30,4 +32,30 @@ pub fn revise(book: &Book, table: &TableIndex, sets: &mut [u32; 24]) -> bool
         }
     }
     changed
+}
+
+/// Revises by each table in turn, and says whether something changed.
+pub fn round(book: &Book, sets: &mut [u32; 24]) -> bool
+    ensures { λ r. ⌜ Cut (length (contents (now (book .entry)) .sizes)) (Closed (contents (now (book .entry)) .tables)) (now (sets .entry)) (now (sets .exit)) r ⌝ }
+{
+    let tables = book.tables();
+    let mut changed = false;
+    for table in tables {
+        if revise(book, table, sets) {
+            changed = true;
+        }
+    }
+    changed
+}
+
+/// Whether some set is empty.
+pub fn has_empty(sets: &[u32]) -> bool
+    ensures { λ r. ⌜ Decides r ((x : ℕ) × (x < length (now (sets .entry))) × (getD (now (sets .entry)) x 0 ≡ 0)) ⌝ }
+{
+    for set in sets {
+        if *set == 0 {
+            return true;
+        }
+    }
+    false
 }
