@@ -4,3 +4,5 @@ pub mod Living
 pub mod Collected
 pub mod Books
 pub mod Cuts
+pub mod Trims
+pub mod Sweeps

@@ -22,12 +22,12 @@ pub record Propagated (c : Contents) (start end : List ℕ) : Type 0 where
   pub exact : (x : ℕ) → x < length (c .sizes) → getD end x 0 ≡ setsOf c end x
   pub rest : (x : ℕ) → length (c .sizes) ≤ x → getD end x 0 ≡ getD start x 0
 
--- Some option keeps no value: no sets inside the start in which every value has support give it one, so the largest do not.
-abbrev pub LeavesNone : Contents → List ℕ → Type 0
+-- Some option of the book keeps no value: no sets inside the start in which every value has support give it one, so the largest do not.
+abbrev pub LeavesNone : Contents → Sets → Type 0
 LeavesNone c start =
-    (x : ℕ) × (x < length (c .sizes)) × ((other : Sets) → Inside other (setsOf c start) → Closed (c .tables) other → (v : ℕ) → In (other x) v → ⊥)
+    (x : ℕ) × (x < length (c .sizes)) × ((other : Sets) → Inside other start → Closed (c .tables) other → (v : ℕ) → In (other x) v → ⊥)
 
 -- How propagation ends, and with what in the array; where it leaves an option no value, the array is as it was.
 abbrev pub Ends : Contents → List ℕ → Outcome → List ℕ → Type 0
 Ends c start Narrowed end = Propagated c start end
-Ends c start Emptied end = LeavesNone c start × (end ≡ start)
+Ends c start Emptied end = LeavesNone c (setsOf c start) × (end ≡ start)

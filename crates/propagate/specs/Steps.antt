@@ -5,9 +5,10 @@ use mathlib.Core.List.{List, [], map}
 use Prim.Native.Nat.{ℕ, _<_, _≤_}
 use lib.ListN.{length, getD, take}
 use Rattle.std.specs.shelf.Lists.{sum}
-use Rattle.book.specs.Contents.{Table}
-use Rattle.propagate.specs.Sets.{Sets, In, Inside, placed}
+use Rattle.book.specs.Contents.{Table, Contents}
+use Rattle.propagate.specs.Sets.{Sets, In, Inside, placed, setsOf}
 use Rattle.propagate.specs.Support.{Support}
+use Rattle.propagate.specs.Propagation.{Largest}
 
 -- a scope and rows that a pass can read: the scope names options, and the places that it has in a row hold values
 pub record Readable (scope : List ℕ) (rows : List (List ℕ)) : Type 0 where
@@ -32,3 +33,14 @@ pub record Cut (options : ℕ) (C : Sets → Type 0) (before after : List ℕ) (
   pub same : changed ≡ false → (after ≡ before) × C (placed after)
   pub less : changed ≡ true → sum after < sum before
   pub rest : (x : ℕ) → options ≤ x → getD after x 0 ≡ getD before x 0
+
+-- only values of the book are left, at the places of its options
+pub record Trimmed (c : Contents) (before after : List ℕ) : Type 0 where
+  pub values : (x : ℕ) → x < length (c .sizes) → getD after x 0 ≡ setsOf c before x
+  pub rest : (x : ℕ) → length (c .sizes) ≤ x → getD after x 0 ≡ getD before x 0
+
+-- the largest closed sets, as they stand in the array, each with a value
+pub record Reached (c : Contents) (before after : List ℕ) : Type 0 where
+  pub largest : Largest c (placed before) (placed after)
+  pub some : (x : ℕ) → x < length (c .sizes) → 0 < getD after x 0
+  pub rest : (x : ℕ) → length (c .sizes) ≤ x → getD after x 0 ≡ getD before x 0

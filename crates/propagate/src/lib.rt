@@ -1,4 +1,5 @@
 // Propagation: from given value sets to the largest inside them in which every value has support.
+mod fixpoint;
 mod layout;
 mod outcome;
 mod rows;

@@ -1,8 +1,5 @@
 // Takes values without support out of the sets, table by table.
-ghost use mathlib.Core.Path.{_≡_};
-ghost use Prim.Native.Nat.{ℕ, _<_};
-ghost use lib.ListN.{length, getD};
-ghost use Rattle.std.specs.Orderings.{Decides};
+ghost use lib.ListN.{length};
 ghost use Rattle.std.specs.shelf.Lists.{Has};
 ghost use Rattle.book.specs.Layout.{tableOf};
 ghost use Rattle.book.specs.Books.{contents, rowsAt, tablesAt};
@@ -46,16 +43,4 @@ pub fn round(book: &Book, sets: &mut [u32; 24]) -> bool
         }
     }
     changed
-}
-
-/// Whether some set is empty.
-pub fn has_empty(sets: &[u32]) -> bool
-    ensures { λ r. ⌜ Decides r ((x : ℕ) × (x < length (now (sets .entry))) × (getD (now (sets .entry)) x 0 ≡ 0)) ⌝ }
-{
-    for set in sets {
-        if *set == 0 {
-            return true;
-        }
-    }
-    false
 }

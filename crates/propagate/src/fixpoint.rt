@@ -1,0 +1,51 @@
+// Propagation: rounds of revising until nothing changes, or some set is empty.
+ghost use mathlib.Core.Path.{_≡_};
+ghost use Prim.Native.Nat.{ℕ, _<_, _≤_};
+ghost use lib.ListN.{getD};
+ghost use Rattle.std.specs.Orderings.{Decides, When};
+ghost use Rattle.book.specs.Books.{contents};
+ghost use Rattle.propagate.specs.Sets.{placed};
+ghost use Rattle.propagate.specs.Steps.{Trimmed, Reached};
+ghost use Rattle.propagate.specs.Propagation.{LeavesNone, Ends};
+use crate::layout::sizes_of;
+use crate::outcome::Outcome;
+use crate::sets::ValueSets;
+use crate::sets::full;
+use crate::tables::round;
+use book::Book;
+
+/// Takes out the values that the options lack.
+pub fn trim(book: &Book, sets: &mut [u32; 24])
+    ensures { λ _. ⌜ Trimmed (contents (now (book .entry))) (now (sets .entry)) (now (sets .exit)) ⌝ }
+{
+    let sizes = sizes_of(book);
+    for x in 0..sizes.len() {
+        sets[x] &= full(sizes[x]);
+    }
+}
+
+/// Whether some option has no value.
+fn has_empty(sets: &[u32; 24], options: usize) -> bool
+    requires { ⌜ options ≤ 24 ⌝ }
+    ensures { λ r. ⌜ Decides r ((x : ℕ) × (x < options) × (getD (now (sets .entry)) x 0 ≡ 0)) ⌝ }
+{
+    for x in 0..options {
+        if sets[x] == 0 {
+            return true;
+        }
+    }
+    false
+}
+
+/// Goes on until every value has support in every table, or stops with false where an option has no value left.
+fn close(book: &Book, sets: &mut [u32; 24]) -> bool
+    ensures { λ r. ⌜ When r (Reached (contents (now (book .entry))) (now (sets .entry)) (now (sets .exit))) (LeavesNone (contents (now (book .entry))) (placed (now (sets .entry)))) ⌝ }
+{
+    let options = sizes_of(book).len();
+    'sweep: while round(book, sets) {
+        if has_empty(sets, options) {
+            return false;
+        }
+    }
+    !has_empty(sets, options)
+}
