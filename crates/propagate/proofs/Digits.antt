@@ -2,11 +2,11 @@
 use mathlib.Core.Path.{_≡_, refl, sym, ap, ap₂, subst, _∙_}
 use mathlib.Core.Logic.{_⊎_, inl, inr}
 use Prim.Native.Nat.{ℕ, zero, suc, _+_, _-_, _*_, _/_, _%_, _^_, _<_, _≤_}
-use native.Mathlib.Nat.{div-eq-of-lt, div-self, pow-suc}
+use native.Mathlib.Nat.{div-eq-of-lt, div-self, pow-suc, mod-lt, lt-of-lt-of-le}
 use native.Mathlib.Omega.{arith}
 use lib.Bits.{bitAnd, bitOr, bitXor, and-shr, or-shr, xor-shr, and-mod, or-mod, xor-mod, xor-add-and, and-le-r}
-use lib.Pow.{pow-pos, pow-add}
-use Rattle.std.proofs.shelf.Bits.{shl-shr, shr-shr, pow-below}
+use lib.Pow.{pow-pos, pow-add, pow-mono, ones-lt, mod-mod-pow}
+use Rattle.std.proofs.shelf.Bits.{shl-shr, shr-shr, shr-split, pow-below, and-mask, field-of}
 use lib.Count.{trailingZeros, under, ones}
 use native.Mathlib.Numerals.{one-add}
 use Rattle.std.proofs.shelf.Tests.{cases-order, cases-lt}
@@ -150,3 +150,33 @@ in-ge s v h = elim (cases-lt s (2 ^ v)) [ inl l ↦ absurd (in-below s v l h) | 
 
 pub out-less : (s v : ℕ) → In s v → bitXor s (2 ^ v) < s
 out-less s v h = omega (arith, xor-add-and s (2 ^ v), and-le-r s (2 ^ v), in-ge (bitAnd s (2 ^ v)) v (in-and s (2 ^ v) v h (in-one v)), pow-pos v)
+
+-- ---- the values below a size
+
+lt-pow : (n : ℕ) → n < 2 ^ n
+lt-pow zero = omega arith
+lt-pow (suc n) = omega (arith, lt-pow n, pow-suc 2 n)
+
+pub no-values : (s : ℕ) → ((v : ℕ) → In s v → ⊥) → s ≡ 0
+no-values s none = empty-from-none s s (lt-pow s) none
+
+-- the values of s / 2 ^ k are those of s from k on, less k
+in-high : (s k w : ℕ) → In (s / 2 ^ k) w → In s (k + w)
+in-high s k w h = ap (λ x. x % 2) (sym (shr-shr s k w)) ∙ h
+
+pub below-from-values : (s k : ℕ) → ((v : ℕ) → In s v → v < k) → s < 2 ^ k
+below-from-values s k low =
+    let e : s / 2 ^ k ≡ 0 = no-values (s / 2 ^ k) (λ w h. omega (arith, low (k + w) (in-high s k w h))) in
+    omega (arith, ap (λ q. q * 2 ^ k) e, shr-split s k, mod-lt s (pow-pos k))
+
+-- the values of s below k
+pub in-mod : (s k v : ℕ) → In (s % 2 ^ k) v → In s v × (v < k)
+in-mod s k v h =
+    let both = in-both s (2 ^ k - 1) v (subst (λ m. In m v) (sym (and-mask s k)) h) in
+    (both .0, elim (cases-lt v k) [ inl l ↦ l | inr g ↦ absurd (in-below (2 ^ k - 1) v (lt-of-lt-of-le (ones-lt k) (pow-mono g)) (both .1)) ])
+
+mod-in-add : (s d v : ℕ) → In s v → In (s % 2 ^ ((d + 1) + v)) v
+mod-in-add s d v h = ap (λ x. x % 2) (field-of s (d + 1) v) ∙ mod-mod-pow (s / 2 ^ v) d 1 ∙ h
+
+pub mod-in : (s k v : ℕ) → v < k → In s v → In (s % 2 ^ k) v
+mod-in s k v l h = subst (λ m. In (s % 2 ^ m) v) {x = (k - v - 1 + 1) + v} {y = k} (omega arith) (mod-in-add s (k - v - 1) v h)

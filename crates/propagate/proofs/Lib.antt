@@ -6,3 +6,4 @@ pub mod Books
 pub mod Cuts
 pub mod Trims
 pub mod Sweeps
+pub mod Ends

@@ -49,3 +49,17 @@ fn close(book: &Book, sets: &mut [u32; 24]) -> bool
     }
     !has_empty(sets, options)
 }
+
+/// Cuts the sets down to the largest inside them in which every value has support in every table whose scope has its option.
+/// Where an option would be left without a value, the sets stay as they were.
+pub fn propagate(book: &Book, sets: &mut ValueSets) -> Outcome
+    ensures { λ r. ⌜ Ends (contents (now (book .entry))) (now (sets .entry) .sets) r (now (sets .exit) .sets) ⌝ }
+{
+    let mut next = sets.sets;
+    trim(book, &mut next);
+    if !close(book, &mut next) {
+        return Outcome::Emptied;
+    }
+    sets.sets = next;
+    Outcome::Narrowed
+}

@@ -6,5 +6,6 @@ mod rows;
 mod sets;
 mod tables;
 
+pub use fixpoint::propagate;
 pub use outcome::Outcome;
 pub use sets::ValueSets;

@@ -1,0 +1,66 @@
+-- From the array that the rounds work on to what propagation promises of the array that it was given.
+use mathlib.Core.Path.{_≡_, refl, sym, ap, subst, _∙_}
+use mathlib.Core.List.{List, [], _∷_}
+use mathlib.Core.Logic.{_⊎_, inl, inr}
+use Prim.Native.Nat.{ℕ, _+_, _%_, _^_, _<_, _≤_}
+use native.Mathlib.Omega.{arith}
+use native.Mathlib.Nat.{mod-eq-of-lt}
+use lib.ListN.{length, getD}
+use Rattle.std.specs.shelf.Lists.{All}
+use Rattle.std.proofs.shelf.Lists.{getD-past}
+use Rattle.std.proofs.shelf.Tests.{cases-lt}
+use Rattle.book.specs.Contents.{Table, Contents, ValidTable, Valid}
+use Rattle.propagate.specs.Sets.{Sets, In, Inside, placed, setsOf}
+use Rattle.propagate.specs.Support.{Upheld, Closed}
+use Rattle.propagate.specs.Propagation.{Largest, Propagated, LeavesNone}
+use Rattle.propagate.specs.Steps.{Trimmed, Reached}
+use Rattle.propagate.proofs.Digits.{in-zero, in-mod, below-from-values}
+use Rattle.propagate.proofs.Living.{live-like}
+
+-- an option that the book lacks has no value
+pub none-past : (c : Contents) (array : List ℕ) (x v : ℕ) → length (c .sizes) ≤ x → In (setsOf c array x) v → ⊥
+none-past c array x v past h = omega (arith, in-mod (getD array x 0) (getD (c .sizes) x 0) v h .1, getD-past (c .sizes) x 0 past)
+
+-- sets that agree on the scope
+pub upheld-like : (t : Table) (a b : Sets) → ((j : ℕ) → j < length (t .scope) → a (getD (t .scope) j 0) ≡ b (getD (t .scope) j 0)) → Upheld t a → Upheld t b
+upheld-like t a b same up j v l h =
+    let s = up j v l (subst (λ n. In n v) (sym (same j l)) h) in
+    (s .0, s .1, live-like a b (t .scope) (s .0) (λ k w m. subst (λ n. In n w) (same k m)) (s .2), s .3)
+
+pub closed-like : (sizes : List ℕ) (a b : Sets) → ((x : ℕ) → x < length sizes → a x ≡ b x) → (tables : List Table) → All (ValidTable sizes) tables → Closed tables a → Closed tables b
+closed-like sizes a b same [] ok up = tt
+closed-like sizes a b same (t ∷ ts) ok up = (upheld-like t a b (λ j l. same (getD (t .scope) j 0) (ok .0 .known j l)) (up .0), closed-like sizes a b same ts (ok .1) (up .1))
+
+module _ (c : Contents) (start trimmed : List ℕ) (trim : Trimmed c start trimmed) where
+  into : (other : Sets) → Inside other (setsOf c start) → Inside other (placed trimmed)
+  into other h x v m = elim (cases-lt x (length (c .sizes))) [
+    | inl l ↦ subst (λ n. In n v) (sym (trim .values x l)) (h x v m)
+    | inr g ↦ absurd (none-past c start x v g (h x v m))
+  ]
+
+  pub leaves-none-at : LeavesNone c (placed trimmed) → LeavesNone c (setsOf c start)
+  leaves-none-at (x, l, none) = (x, l, λ other h k v m. none other (into other h) k v m)
+
+  pub propagated : Valid c → (end : List ℕ) → Reached c trimmed end → Propagated c start end
+  propagated ok end r = record {
+    largest = record {
+      inside = λ x v h. elim (cases-lt x (length (c .sizes))) [
+        | inl l ↦ back x v l (subst (λ n. In n v) (sym (exact x l)) h)
+        | inr g ↦ absurd (none-past c end x v g h)
+      ];
+      closed = closed-like (c .sizes) (placed end) (setsOf c end) exact (c .tables) (ok .tables) (r .largest .closed);
+      largest = λ other h k x v m. elim (cases-lt x (length (c .sizes))) [
+        | inl l ↦ subst (λ n. In n v) (exact x l) (r .largest .largest other (into other h) k x v m)
+        | inr g ↦ absurd (none-past c start x v g (h x v m))
+      ];
+    };
+    some = r .some;
+    exact = exact;
+    rest = λ x g. r .rest x g ∙ trim .rest x g;
+  }
+    where
+      back : (x v : ℕ) → x < length (c .sizes) → In (getD end x 0) v → In (setsOf c start x) v
+      back x v l h = subst (λ n. In n v) (trim .values x l) (r .largest .inside x v h)
+
+      exact : (x : ℕ) → x < length (c .sizes) → getD end x 0 ≡ setsOf c end x
+      exact x l = sym (mod-eq-of-lt (below-from-values (getD end x 0) (getD (c .sizes) x 0) (λ v h. in-mod (getD start x 0) (getD (c .sizes) x 0) v (back x v l h) .1)))
