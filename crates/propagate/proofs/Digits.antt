@@ -9,7 +9,7 @@ use lib.Pow.{pow-pos, pow-add, pow-mono, ones-lt, mod-mod-pow}
 use Rattle.std.proofs.shelf.Bits.{shl-shr, shr-shr, shr-split, pow-below, and-mask, field-of}
 use lib.Count.{trailingZeros, under, ones}
 use native.Mathlib.Numerals.{one-add}
-use Rattle.std.proofs.shelf.Tests.{cases-order, cases-lt}
+use Rattle.std.proofs.shelf.Tests.{cases-order, cases-lt, cases-eq}
 use Rattle.propagate.specs.Sets.{In}
 
 digit : (n : ℕ) → n % 2 < 2
@@ -180,3 +180,15 @@ mod-in-add s d v h = ap (λ x. x % 2) (field-of s (d + 1) v) ∙ mod-mod-pow (s 
 
 pub mod-in : (s k v : ℕ) → v < k → In s v → In (s % 2 ^ k) v
 mod-in s k v l h = subst (λ m. In (s % 2 ^ m) v) {x = (k - v - 1 + 1) + v} {y = k} (omega arith) (mod-in-add s (k - v - 1) v h)
+
+-- ---- sets with the same values are the same number
+
+le-from-values : (k s t : ℕ) → s < 2 ^ k → ((v : ℕ) → In s v → In t v) → s ≤ t
+le-from-values zero s t h sub = omega arith
+le-from-values (suc k) s t h sub =
+    let half = le-from-values k (s / 2) (t / 2) (half-lt k s h) (λ v m. in-half t v (sub (suc v) (in-suc s v m))) in
+    let low : s % 2 ≡ 1 → t % 2 ≡ 1 = λ e. omega (arith, sub 0 (omega arith)) in
+    elim (cases-eq (s % 2) 1) [ inl e ↦ omega (arith, low e) | inr ne ↦ omega arith ]
+
+pub same-from-values : (s t : ℕ) → ((v : ℕ) → In s v → In t v) → ((v : ℕ) → In t v → In s v) → s ≡ t
+same-from-values s t a b = omega (arith, le-from-values s s t (lt-pow s) a, le-from-values t t s (lt-pow t) b)

@@ -7,3 +7,4 @@ pub mod Cuts
 pub mod Trims
 pub mod Sweeps
 pub mod Ends
+pub mod Fits

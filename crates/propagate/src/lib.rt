@@ -1,5 +1,6 @@
 // Propagation: from given value sets to the largest inside them in which every value has support.
 mod fixpoint;
+mod laws;
 mod layout;
 mod outcome;
 mod rows;
@@ -7,5 +8,8 @@ mod sets;
 mod tables;
 
 pub use fixpoint::propagate;
+pub use laws::emptied_where_a_largest_set_is_empty;
+pub use laws::propagation_ends_one_way;
+pub use laws::propagation_loses_no_fit;
 pub use outcome::Outcome;
 pub use sets::ValueSets;
