@@ -1,6 +1,7 @@
 // Sets of values, a number each, in which value v is worth 2 to the power v.
 ghost use mathlib.Core.Path.{_≡_};
 ghost use Prim.Native.Nat.{ℕ, _-_, _^_, _<_, _≤_};
+ghost use lib.Count.{ones};
 ghost use Rattle.std.specs.Orderings.{Decides};
 ghost use Rattle.propagate.specs.Sets.{In};
 
@@ -24,4 +25,12 @@ pub fn full(size: u8) -> u32
     ensures { λ r. ⌜ r ≡ 2 ^ size - 1 ⌝ }
 {
     u32::MAX >> (32 - size)
+}
+
+/// How many values the set has.
+pub fn size(set: u32) -> usize
+    ensures value { λ r. ⌜ r ≡ ones set ⌝ }
+    ensures bound { λ r. ⌜ r ≤ 32 ⌝ }
+{
+    set.count_ones() as usize
 }

@@ -1,0 +1,3 @@
+pub mod Universal
+pub mod Boxes
+pub mod Steps

@@ -1,0 +1,2 @@
+// From value sets to the box that stands for them.
+mod tables;
