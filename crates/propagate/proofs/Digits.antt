@@ -5,7 +5,7 @@ use Prim.Native.Nat.{ℕ, zero, suc, _+_, _-_, _*_, _/_, _%_, _^_, _<_, _≤_}
 use native.Mathlib.Nat.{div-eq-of-lt, div-self, pow-suc, mod-lt, lt-of-lt-of-le}
 use native.Mathlib.Omega.{arith}
 use lib.Bits.{bitAnd, bitOr, bitXor, and-shr, or-shr, xor-shr, and-mod, or-mod, xor-mod, xor-add-and, and-le-r}
-use lib.Pow.{pow-pos, pow-add, pow-mono, ones-lt, mod-mod-pow}
+use lib.Pow.{pow-pos, pow-add, pow-mono, ones-lt, ones-split, high, mod-mod-pow}
 use Rattle.std.proofs.shelf.Bits.{shl-shr, shr-shr, shr-split, pow-below, and-mask, field-of}
 use lib.Count.{trailingZeros, under, ones}
 use native.Mathlib.Numerals.{one-add}
@@ -192,3 +192,22 @@ le-from-values (suc k) s t h sub =
 
 pub same-from-values : (s t : ℕ) → ((v : ℕ) → In s v → In t v) → ((v : ℕ) → In t v → In s v) → s ≡ t
 same-from-values s t a b = omega (arith, le-from-values s s t (lt-pow s) a, le-from-values t t s (lt-pow t) b)
+
+-- ---- all values below a size
+
+-- a value of a set of k digits is below k
+pub in-lt : (k s v : ℕ) → s < 2 ^ k → In s v → v < k
+in-lt k s v h e = elim (cases-lt v k) [ inl l ↦ l | inr g ↦ absurd (in-below s v (lt-of-lt-of-le h (pow-mono g)) e) ]
+
+full-in-add : (d v : ℕ) → In (2 ^ (suc d + v) - 1) v
+full-in-add d v =
+    ap (λ n. n % 2) (ap (λ n. n / 2 ^ v) (ones-split (suc d) v) ∙ high (2 ^ suc d - 1) v (ones-lt v)) ∙ odd
+  where
+    odd : (2 ^ suc d - 1) % 2 ≡ 1
+    odd = omega (arith, pow-suc 2 d, pow-pos d)
+
+pub full-in : (k v : ℕ) → v < k → In (2 ^ k - 1) v
+full-in k v l = subst (λ m. In (2 ^ m - 1) v) {x = suc (k - v - 1) + v} {y = k} (omega arith) (full-in-add (k - v - 1) v)
+
+pub full-if : (k s : ℕ) → s < 2 ^ k → ((v : ℕ) → v < k → In s v) → s ≡ 2 ^ k - 1
+full-if k s h all = same-from-values s (2 ^ k - 1) (λ v m. full-in k v (in-lt k s v h m)) (λ v m. all v (in-lt k (2 ^ k - 1) v (ones-lt k) m))

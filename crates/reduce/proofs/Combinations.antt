@@ -4,27 +4,20 @@ use mathlib.Core.List.{List, [], _∷_, map}
 use mathlib.Core.Logic.{_⊎_, inl, inr}
 use Prim.Native.Nat.{ℕ, zero, suc, _+_, _*_, _^_, _<_, _≤_}
 use native.Mathlib.Omega.{arith}
-use native.Mathlib.Nat.{lt-of-lt-of-le}
 use lib.ListN.{length, getD}
 use lib.Count.{ones}
-use lib.Pow.{pow-mono}
 use Rattle.std.specs.Orderings.{Decides}
 use Rattle.std.specs.shelf.Lists.{All, joined, kept-by, countBy}
 use Rattle.std.proofs.shelf.Lists.{length-map}
 use Rattle.std.proofs.shelf.Sums.{length-kept-by}
-use Rattle.std.proofs.shelf.Tests.{cases-lt}
 use Rattle.book.specs.Contents.{Table, Listed}
 use Rattle.propagate.specs.Sets.{Sets, In}
 use Rattle.propagate.specs.Support.{Live, isLive}
-use Rattle.propagate.proofs.Digits.{in-below}
+use Rattle.propagate.proofs.Digits.{in-lt}
 use Rattle.propagate.proofs.Living.{isLive-decides}
 use Rattle.reduce.specs.Universal.{Universal, ways}
 use Rattle.reduce.proofs.Distinct.{Among, Distinct, no-longer, exhausts, among-kept, kept-among, distinct-kept, among-map, map-among, distinct-map, among-joined, joined-among, distinct-joined, length-joined}
 use Rattle.reduce.proofs.Members.{members, among-members, members-in, members-distinct, length-members}
-
--- a value of a set of k digits is below k
-in-lt : (k s v : ℕ) → s < 2 ^ k → In s v → v < k
-in-lt k s v h e = elim (cases-lt v k) [ inl l ↦ l | inr g ↦ absurd (in-below s v (lt-of-lt-of-le h (pow-mono g)) e) ]
 
 in-under : (s v : ℕ) → (w : ℕ) × (v ≡ 0 + w) × In s w → In s v
 in-under s v (w, e, i) = subst (In s) (omega arith) i

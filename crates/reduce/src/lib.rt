@@ -1,2 +1,3 @@
 // From value sets to the box that stands for them.
+mod boxing;
 mod tables;
