@@ -2,3 +2,4 @@ pub mod Distinct
 pub mod Members
 pub mod Combinations
 pub mod Bindings
+pub mod Recordings

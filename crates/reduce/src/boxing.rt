@@ -65,3 +65,18 @@ fn recorded(bound: u32, option: u8, set: u32, size: u8) -> u32
         0
     }
 }
+
+/// The box of the sets: it records each option with its set, but for those whose set is whole or that no table binds.
+pub fn box_of(book: &Book, sets: &ValueSets) -> ValueBox
+    ensures { λ r. ⌜ BoxOf (contents (now (book .entry))) (now (sets .entry) .sets) (r .sets) ⌝ }
+{
+    let mut values = sets.sets;
+    trim(book, &mut values);
+    let bound = bound_options(book, &values);
+    let sizes = sizes_of(book);
+    let mut noted = [0; 24];
+    for x in 0..sizes.len() {
+        noted[x] = recorded(bound, x as u8, values[x], sizes[x]);
+    }
+    ValueBox { sets: noted }
+}
