@@ -76,7 +76,7 @@ module _ (sets : Sets) (tables : List Table) (t : Table) (bound : ℕ) (old : Bi
 
 -- ---- sets that agree on the options of the book
 
-universal-like : (a b : Sets) (t : Table) → ((j : ℕ) → j < length (t .scope) → a (getD (t .scope) j 0) ≡ b (getD (t .scope) j 0)) → Universal a t → Universal b t
+pub universal-like : (a b : Sets) (t : Table) → ((j : ℕ) → j < length (t .scope) → a (getD (t .scope) j 0) ≡ b (getD (t .scope) j 0)) → Universal a t → Universal b t
 universal-like a b t same u row h = u row (live-like b a (t .scope) row (λ j v l. subst (λ n. In n v) (sym (same j l))) h)
 
 pub free-like : (sizes : List ℕ) (a b : Sets) → ((x : ℕ) → x < length sizes → a x ≡ b x) → (x : ℕ) (tables : List Table) → All (ValidTable sizes) tables → Free a tables x → Free b tables x

@@ -3,3 +3,4 @@ pub mod Members
 pub mod Combinations
 pub mod Bindings
 pub mod Recordings
+pub mod Changes

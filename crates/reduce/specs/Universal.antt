@@ -5,7 +5,7 @@ use Prim.Native.Nat.{ℕ, _*_, _<_}
 use lib.ListN.{length, getD}
 use lib.Count.{ones}
 use Rattle.std.specs.shelf.Lists.{All}
-use Rattle.book.specs.Contents.{Table}
+use Rattle.book.specs.Contents.{Table, Contents}
 use Rattle.propagate.specs.Sets.{Sets}
 use Rattle.propagate.specs.Support.{Live, Allows}
 
@@ -25,3 +25,7 @@ Free sets tables x = All (λ t. Mentions (t .scope) x → Universal sets t) tabl
 abbrev pub ways : Sets → List ℕ → ℕ
 ways sets [] = 1
 ways sets (x ∷ scope) = ones (sets x) * ways sets scope
+
+-- The book has a table of this number, and it is universal in the sets.
+abbrev pub UniversalAt : Contents → Sets → ℕ → Type 0
+UniversalAt c sets i = (i < length (c .tables)) × Universal sets (getD (c .tables) i (record { scope = []; rows = [] }))

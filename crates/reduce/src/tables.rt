@@ -6,14 +6,16 @@ ghost use Rattle.std.specs.Orderings.{Decides};
 ghost use Rattle.std.specs.shelf.Lists.{Has};
 ghost use Rattle.book.specs.Layout.{tableOf};
 ghost use Rattle.book.specs.Books.{contents, rowsAt, tablesAt};
-ghost use Rattle.propagate.specs.Sets.{placed};
-ghost use Rattle.reduce.specs.Universal.{Universal, ways};
+ghost use Rattle.propagate.specs.Sets.{placed, setsOf};
+ghost use Rattle.reduce.specs.Universal.{Universal, UniversalAt, ways};
 use book::Book;
 use book::TableIndex;
+use propagate::ValueSets;
 use propagate::rows_of;
 use propagate::scope_of;
 use propagate::size;
 use propagate::support;
+use propagate::trim;
 
 /// How many combinations of values the scope's sets have.
 fn combinations(scope: &[u8], sets: &[u32; 24]) -> usize
@@ -36,4 +38,17 @@ pub fn covers(book: &Book, table: &TableIndex, sets: &[u32; 24]) -> bool
     let scope = scope_of(table);
     let found = support(rows_of(book, table), scope, sets);
     found.live == combinations(scope, sets)
+}
+
+/// Whether the book has a table of this number, and it is universal in the sets.
+pub fn universal(book: &Book, table: usize, sets: &ValueSets) -> bool
+    ensures { λ r. ⌜ Decides r (UniversalAt (contents (now (book .entry))) (setsOf (contents (now (book .entry))) (now (sets .entry) .sets)) table) ⌝ }
+{
+    let tables = book.tables();
+    if table >= tables.len() {
+        return false;
+    }
+    let mut values = sets.sets;
+    trim(book, &mut values);
+    covers(book, &tables[table], &values)
 }

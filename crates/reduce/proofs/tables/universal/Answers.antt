@@ -1,0 +1,54 @@
+use mathlib.Core.Path.{_≡_, sym, ap, subst, _∙_}
+use mathlib.Core.List.{[], map}
+use Prim.Native.Nat.{ℕ, _<_}
+use native.Mathlib.Omega.{arith}
+use lib.ListN.{length, getD}
+use Rattle.std.specs.shelf.Lists.{Has}
+use Rattle.std.proofs.shelf.Lists.{getD-map, length-map}
+use Rattle.std.proofs.shelf.Elements.{has-getD}
+use Rattle.std.proofs.shelf.Tests.{false≢true}
+use Rattle.std.proofs.shelf.Ways.{decides-like}
+use Rattle.book.specs.Contents.{Table}
+use Rattle.book.specs.Books.{contents, tablesAt}
+use Rattle.book.specs.declared.index.TableIndex.{TableIndex}
+use Rattle.propagate.specs.Sets.{placed, setsOf}
+use Rattle.propagate.proofs.Books.{tableAt, table-valid}
+use Rattle.reduce.specs.Universal.{Universal}
+use Rattle.reduce.proofs.Bindings.{universal-like}
+use Rattle.reduce.proofs.tables.universal.Needs as need
+
+-- what stands past the end of a list of tables
+abbrev blank : TableIndex
+blank = record { scope = []; arity = 0; start = 0; count = 0 }
+
+abbrev no-table : Table
+no-table = record { scope = []; rows = [] }
+
+pub covers-requires : need.covers-requires
+covers-requires c κs =
+    subst (λ ts. Has ts (getD (c .tables-tables .result .now) (c .args .table) blank)) (c .tables-tables .ensures)
+    (has-getD (c .tables-tables .result .now) (c .args .table) blank (c .if-table-tables .left))
+
+pub returns-then-table-tables : need.returns-then-table-tables
+returns-then-table-tables c = (
+  λ e. absurd (false≢true e),
+  λ u. absurd (omega (arith, u .0, ap length (c .tables-tables .ensures), length-map (tablesAt (c .args .book .now)) (tableAt (c .args .book .now)))),
+)
+
+pub returns : need.returns
+returns c =
+    let b = c .args .book .now in
+    let i = c .args .table in
+    let tables = c .tables-tables .result .now in
+    let t = getD tables i blank in
+    let one : Has (tablesAt b) t = subst (λ ts. Has ts t) (c .tables-tables .ensures) (has-getD tables i blank (c .if-table-tables .left)) in
+    let known = table-valid b t one .known in
+    let within : i < length (contents b .tables) = omega (arith, c .if-table-tables .left, ap length (c .tables-tables .ensures), length-map (tablesAt b) (tableAt b)) in
+    let inner : i < length (tablesAt b) = omega (arith, c .if-table-tables .left, ap length (c .tables-tables .ensures)) in
+    let at : getD (contents b .tables) i no-table ≡ tableAt b t =
+    getD-map (tableAt b) (tablesAt b) i blank no-table inner ∙ ap (λ ts. tableAt b (getD ts i blank)) (sym (c .tables-tables .ensures)) in
+    let book-sets = λ (x : ℕ). setsOf (contents b) (c .args .sets .now .sets) x in
+    decides-like (c .covers .result)
+    (λ u. (within, subst (Universal book-sets) (sym at) (universal-like (placed (c .trim .last .sets)) book-sets (tableAt b t) (λ j l. c .trim .ensures .values (getD (tableAt b t .scope) j 0) (known j l)) u)))
+    (λ u. universal-like book-sets (placed (c .trim .last .sets)) (tableAt b t) (λ j l. sym (c .trim .ensures .values (getD (tableAt b t .scope) j 0) (known j l))) (subst (Universal book-sets) at (u .1)))
+    (c .covers .ensures)
