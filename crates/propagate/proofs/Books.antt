@@ -6,7 +6,7 @@ use native.Mathlib.Omega.{arith}
 use lib.ListN.{length, getD, take, drop, length-take}
 use Rattle.std.specs.shelf.Lists.{All, Has}
 use Rattle.std.proofs.shelf.Lists.{getD-map, getD-take, length-map}
-use Rattle.std.proofs.shelf.Elements.{all-getD}
+use Rattle.std.proofs.shelf.Elements.{all-getD, has-getD}
 use Rattle.book.specs.Contents.{Table, Contents, ValidTable, Valid}
 use Rattle.book.specs.Layout.{tableOf}
 use Rattle.book.specs.Books.{contents, rowsAt, tablesAt}
@@ -73,3 +73,17 @@ module _ (b : Book) (t : TableIndex) (one : Has (tablesAt b) t) where
 
   pub scope-known : (scope : List ℕ) → scope ≡ take (t .arity) (t .scope) → (j : ℕ) → j < length scope → getD scope j 0 < length (contents b .sizes)
   scope-known scope e = subst (λ s. (j : ℕ) → j < length s → getD s j 0 < length (contents b .sizes)) (sym e) (table-valid .known)
+
+-- what stands past the end of a list of tables
+abbrev pub blank : TableIndex
+blank = record { scope = []; arity = 0; start = 0; count = 0 }
+
+-- a table that a loop over the tables comes to
+pub one-of : (b : Book) (tables : List TableIndex) (i : ℕ) → tables ≡ tablesAt b → i < length tables → Has (tablesAt b) (getD tables i blank)
+one-of b tables i e l = subst (λ ts. Has ts (getD tables i blank)) e (has-getD tables i blank l)
+
+-- what holds of every table of the contents holds of it
+pub all-at : (P : Table → Type 0) (b : Book) (tables : List TableIndex) (i : ℕ) → tables ≡ tablesAt b → i < length tables → All P (contents b .tables) → P (tableAt b (getD tables i blank))
+all-at P b tables i e l all =
+    subst P (getD-map (tableAt b) tables i blank (tableAt b blank) l)
+    (all-getD P (map (tableAt b) tables) i (tableAt b blank) (subst (λ n. i < n) (sym (length-map tables (tableAt b))) l) (subst (λ ts. All P (map (tableAt b) ts)) (sym e) all))

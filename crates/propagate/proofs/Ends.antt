@@ -2,7 +2,7 @@
 use mathlib.Core.Path.{_≡_, refl, sym, ap, subst, _∙_}
 use mathlib.Core.List.{List, [], _∷_}
 use mathlib.Core.Logic.{_⊎_, inl, inr}
-use Prim.Native.Nat.{ℕ, _+_, _%_, _^_, _<_, _≤_}
+use Prim.Native.Nat.{ℕ, _+_, _-_, _%_, _^_, _<_, _≤_}
 use native.Mathlib.Omega.{arith}
 use native.Mathlib.Nat.{mod-eq-of-lt}
 use lib.ListN.{length, getD}
@@ -12,24 +12,30 @@ use Rattle.std.proofs.shelf.Tests.{cases-lt}
 use Rattle.book.specs.Contents.{Table, Contents, ValidTable, Valid}
 use Rattle.propagate.specs.Sets.{Sets, In, Inside, placed, setsOf}
 use Rattle.propagate.specs.Support.{Upheld, Closed}
-use Rattle.propagate.specs.Propagation.{Largest, Propagated, LeavesNone}
+use Rattle.propagate.specs.Propagation.{Largest, Propagated, LeavesNone, Settled}
 use Rattle.propagate.specs.Steps.{Trimmed, Reached}
-use Rattle.propagate.proofs.Digits.{in-zero, in-mod, below-from-values}
-use Rattle.propagate.proofs.Living.{live-like}
+use Rattle.propagate.proofs.Digits.{in-zero, in-mod, below-from-values, full-in}
+use Rattle.propagate.proofs.Cuts.{upheld-like}
 
 -- an option that the book lacks has no value
 pub none-past : (c : Contents) (array : List ℕ) (x v : ℕ) → length (c .sizes) ≤ x → In (setsOf c array x) v → ⊥
 none-past c array x v past h = omega (arith, in-mod (getD array x 0) (getD (c .sizes) x 0) v h .1, getD-past (c .sizes) x 0 past)
 
--- sets that agree on the scope
-pub upheld-like : (t : Table) (a b : Sets) → ((j : ℕ) → j < length (t .scope) → a (getD (t .scope) j 0) ≡ b (getD (t .scope) j 0)) → Upheld t a → Upheld t b
-upheld-like t a b same up j v l h =
-    let s = up j v l (subst (λ n. In n v) (sym (same j l)) h) in
-    (s .0, s .1, live-like a b (t .scope) (s .0) (λ k w m. subst (λ n. In n w) (same k m)) (s .2), s .3)
-
+-- sets that agree on the options of the book
 pub closed-like : (sizes : List ℕ) (a b : Sets) → ((x : ℕ) → x < length sizes → a x ≡ b x) → (tables : List Table) → All (ValidTable sizes) tables → Closed tables a → Closed tables b
 closed-like sizes a b same [] ok up = tt
 closed-like sizes a b same (t ∷ ts) ok up = (upheld-like t a b (λ j l. same (getD (t .scope) j 0) (ok .0 .known j l)) (up .0), closed-like sizes a b same ts (ok .1) (up .1))
+
+pub settled-like : (sizes : List ℕ) (a b : Sets) → ((x : ℕ) → x < length sizes → a x ≡ b x) → (pending : ℕ) (tables : List Table) → All (ValidTable sizes) tables → Settled tables a pending → Settled tables b pending
+settled-like sizes a b same pending [] ok up = tt
+settled-like sizes a b same pending (t ∷ ts) ok up =
+    (λ clear. upheld-like t a b (λ j l. same (getD (t .scope) j 0) (ok .0 .known j l)) (up .0 clear), settled-like sizes a b same pending ts (ok .1) (up .1))
+
+-- every table has an option, so all options are enough to look at
+pub settled-all : (sizes : List ℕ) (sets : Sets) → length sizes ≤ 32 → (tables : List Table) → All (ValidTable sizes) tables → Settled tables sets (2 ^ 32 - 1)
+settled-all sizes sets few [] ok = tt
+settled-all sizes sets few (t ∷ ts) ok =
+    (λ clear. absurd (clear (getD (t .scope) 0 0) (0, ok .0 .some, refl) (full-in 32 (getD (t .scope) 0 0) (omega (arith, ok .0 .known 0 (ok .0 .some))))), settled-all sizes sets few ts (ok .1))
 
 module _ (c : Contents) (start trimmed : List ℕ) (trim : Trimmed c start trimmed) where
   into : (other : Sets) → Inside other (setsOf c start) → Inside other (placed trimmed)
@@ -37,6 +43,9 @@ module _ (c : Contents) (start trimmed : List ℕ) (trim : Trimmed c start trimm
     | inl l ↦ subst (λ n. In n v) (sym (trim .values x l)) (h x v m)
     | inr g ↦ absurd (none-past c start x v g (h x v m))
   ]
+
+  pub settled-at : Valid c → (pending : ℕ) → Settled (c .tables) (setsOf c start) pending → Settled (c .tables) (placed trimmed) pending
+  settled-at ok pending = settled-like (c .sizes) (setsOf c start) (placed trimmed) (λ x l. sym (trim .values x l)) pending (c .tables) (ok .tables)
 
   pub leaves-none-at : LeavesNone c (placed trimmed) → LeavesNone c (setsOf c start)
   leaves-none-at (x, l, none) = (x, l, λ other h k v m. none other (into other h) k v m)

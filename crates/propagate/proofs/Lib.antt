@@ -4,6 +4,7 @@ pub mod Living
 pub mod Collected
 pub mod Books
 pub mod Cuts
+pub mod Rounds
 pub mod Trims
 pub mod Sweeps
 pub mod Ends

@@ -3,9 +3,10 @@ use mathlib.Core.Path.{_≡_}
 use mathlib.Core.List.{List}
 use Prim.Native.Nat.{ℕ, _<_, _≤_}
 use lib.ListN.{length, getD}
-use Rattle.book.specs.Contents.{Contents}
+use Rattle.std.specs.shelf.Lists.{All}
+use Rattle.book.specs.Contents.{Table, Contents}
 use Rattle.propagate.specs.Sets.{Sets, In, Inside, setsOf}
-use Rattle.propagate.specs.Support.{Closed}
+use Rattle.propagate.specs.Support.{Mentions, Upheld, Closed}
 use Rattle.propagate.specs.declared.outcome.Outcome.{Outcome}
 use Rattle.propagate.specs.declared.outcome.Outcome.the-variants.{Narrowed, Emptied}
 
@@ -31,3 +32,11 @@ LeavesNone c start =
 abbrev pub Ends : Contents → List ℕ → Outcome → List ℕ → Type 0
 Ends c start Narrowed end = Propagated c start end
 Ends c start Emptied end = LeavesNone c (setsOf c start) × (end ≡ start)
+
+-- A set of options is a number, in which option x is worth 2 ^ x. The scope has none of these options.
+abbrev pub Avoids : List ℕ → ℕ → Type 0
+Avoids scope options = (x : ℕ) → Mentions scope x → In options x → ⊥
+
+-- Only these options are left to look at: in every table whose scope has none of them, every value has support.
+abbrev pub Settled : List Table → Sets → ℕ → Type 0
+Settled tables sets pending = All (λ t. Avoids (t .scope) pending → Upheld t sets) tables

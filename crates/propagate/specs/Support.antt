@@ -9,6 +9,10 @@ use Rattle.std.specs.shelf.Lists.{All, Each}
 use Rattle.book.specs.Contents.{Table, Contents, Listed}
 use Rattle.propagate.specs.Sets.{Sets, In}
 
+-- the scope has the option
+abbrev pub Mentions : List ℕ → ℕ → Type 0
+Mentions scope x = (j : ℕ) × (j < length scope) × (getD scope j 0 ≡ x)
+
 -- A row is live when each of its values is in its option's set.
 abbrev pub Live : Sets → List ℕ → List ℕ → Type 0
 Live sets scope row = Each (λ x v. In (sets x) v) scope row

@@ -8,6 +8,7 @@ mod sets;
 mod tables;
 
 pub use fixpoint::propagate;
+pub use fixpoint::propagate_from;
 pub use fixpoint::trim;
 pub use laws::emptied_where_a_largest_set_is_empty;
 pub use laws::propagation_ends_one_way;

@@ -11,10 +11,11 @@ use Rattle.std.proofs.shelf.Elements.{all-push}
 use Rattle.std.proofs.shelf.Tests.{cases-lt}
 use Rattle.book.specs.Contents.{Table, ValidTable}
 use Rattle.propagate.specs.Sets.{Sets, In}
+use Rattle.propagate.specs.Support.{Mentions}
 use Rattle.propagate.proofs.Digits.{in-either, in-or, in-zero, in-one, in-one-only}
 use Rattle.propagate.proofs.Living.{live-like}
 use Rattle.propagate.proofs.Cuts.{all-parts}
-use Rattle.reduce.specs.Universal.{Universal, Mentions, Free}
+use Rattle.reduce.specs.Universal.{Universal, Free}
 use Rattle.reduce.specs.Steps.{Marks, Binds}
 
 -- the scope has the option before the place m

@@ -5,7 +5,8 @@ use mathlib.Core.List.{List}
 use Prim.Native.Nat.{ℕ}
 use Rattle.book.specs.Contents.{Table}
 use Rattle.propagate.specs.Sets.{Sets, In}
-use Rattle.reduce.specs.Universal.{Mentions, Free}
+use Rattle.propagate.specs.Support.{Mentions}
+use Rattle.reduce.specs.Universal.{Free}
 
 -- the options of a scope put into a set of options
 pub record Marks (before : ℕ) (scope : List ℕ) (after : ℕ) : Type 0 where

@@ -1,5 +1,4 @@
 -- Tables that rule nothing out.
-use mathlib.Core.Path.{_≡_}
 use mathlib.Core.List.{List, [], _∷_}
 use Prim.Native.Nat.{ℕ, _*_, _<_}
 use lib.ListN.{length, getD}
@@ -7,15 +6,11 @@ use lib.Count.{ones}
 use Rattle.std.specs.shelf.Lists.{All}
 use Rattle.book.specs.Contents.{Table, Contents}
 use Rattle.propagate.specs.Sets.{Sets}
-use Rattle.propagate.specs.Support.{Live, Allows}
+use Rattle.propagate.specs.Support.{Mentions, Live, Allows}
 
 -- A table is universal in some sets when it allows every combination of values from its scope's sets.
 abbrev pub Universal : Sets → Table → Type 0
 Universal sets t = (row : List ℕ) → Live sets (t .scope) row → Allows t row
-
--- the scope has the option
-abbrev pub Mentions : List ℕ → ℕ → Type 0
-Mentions scope x = (j : ℕ) × (j < length scope) × (getD scope j 0 ≡ x)
 
 -- Every table whose scope has the option is universal: so it is of an option in no table.
 abbrev pub Free : Sets → List Table → ℕ → Type 0

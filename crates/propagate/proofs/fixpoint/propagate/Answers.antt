@@ -1,11 +1,11 @@
-use mathlib.Core.Path.{refl}
+use native.Mathlib.Omega.{arith}
 use Rattle.book.specs.Books.{contents}
+use Rattle.propagate.specs.Sets.{setsOf}
 use Rattle.propagate.proofs.Books.{valid}
-use Rattle.propagate.proofs.Ends.{leaves-none-at, propagated}
+use Rattle.propagate.proofs.Ends.{settled-all}
 use Rattle.propagate.proofs.fixpoint.propagate.Needs as need
 
-pub returns : need.returns
-returns c = propagated (contents (c .args .book .now)) (c .args .sets .now .sets) (c .trim .last .sets) (c .trim .ensures) (valid (c .args .book .now)) (c .close .last .sets) (c .if-not-close .ensures tt)
-
-pub returns-then-not-close : need.returns-then-not-close
-returns-then-not-close c = (leaves-none-at (contents (c .args .book .now)) (c .args .sets .now .sets) (c .trim .last .sets) (c .trim .ensures) (c .if-not-close .ensures tt), refl)
+pub propagate-from-requires : need.propagate-from-requires
+propagate-from-requires c κs =
+    let ok = valid (c .args .book .now) in
+    settled-all (contents (c .args .book .now) .sizes) (setsOf (contents (c .args .book .now)) (c .args .sets .now .sets)) (omega (arith, ok .few)) (contents (c .args .book .now) .tables) (ok .tables)

@@ -1,17 +1,21 @@
-use mathlib.Core.Path.{_≡_, refl, sym, ap, subst, subst₂}
-use mathlib.Core.Bool.{true, false}
+use mathlib.Core.Path.{_≡_, refl, sym, ap, subst, subst₂, _∙_}
+use mathlib.Core.List.{List}
 use Prim.Native.Nat.{ℕ, _+_, _<_, _≤_}
 use native.Mathlib.Omega.{arith}
 use lib.ListN.{length, getD}
-use Rattle.book.specs.Contents.{Table}
+use lib.Bits.{bitOr}
+use Rattle.std.proofs.shelf.Bits.{one-shl}
 use Rattle.book.specs.Books.{contents}
-use Rattle.propagate.specs.Sets.{placed}
-use Rattle.propagate.specs.Support.{Upheld}
-use Rattle.propagate.specs.Steps.{Collects, Cut, tableFrom}
+use Rattle.book.specs.declared.book.Book.{Book}
+use Rattle.propagate.specs.Sets.{Sets, placed}
+use Rattle.propagate.specs.Steps.{Collects, Revised, tableFrom}
 use Rattle.propagate.proofs.Books.{rowsOf, table-at, readable-at, scope-known}
 use Rattle.propagate.proofs.Cuts.{Cutting, cutting-none, cutting-same, cutting-cut, cutting-all}
 use Rattle.propagate.proofs.tables.revise.Needs as need
 use Rattle.propagate.proofs.tables.revise.Needs.{then-new-old, else-new-old}
+
+collected : (sets : Sets) (scope : List ℕ) (rows of : List (List ℕ)) (seen : List ℕ) → rows ≡ of → Collects sets (tableFrom scope rows) seen → Collects sets (tableFrom scope of) seen
+collected sets scope rows of seen e = subst (λ rows. Collects sets (tableFrom scope rows) seen) e
 
 pub support-found-requires : need.support-found-requires
 support-found-requires c κs = readable-at (c .args .book .now) (c .args .table .now) (c .pre) _ _ (c .scope-of-scope .ensures) (c .rows-of .ensures)
@@ -34,18 +38,19 @@ loop-j-holds c = cutting-none _ _ _ _
 pub loop-j-again : need.loop-j-again
 loop-j-again c =
     let n = length (contents (c .args .book .now) .sizes) in
-    let t = tableFrom (c .scope-of-scope .result .now) (rowsOf (c .args .book .now) (c .args .table .now)) in
+    let scope = c .scope-of-scope .result .now in
+    let t = tableFrom scope (rowsOf (c .args .book .now) (c .args .table .now)) in
     let seen = c .support-found .result .values in
     let before = c .args .sets .now in
-    let coll = subst (λ rows. Collects (placed before) (tableFrom (c .scope-of-scope .result .now) rows) seen) (c .rows-of .ensures) (c .support-found .ensures .values) in
     let j = c .loop-j .j in
-    let here : j < length (c .scope-of-scope .result .now) = c .loop-j-test .taken in
-    let known = scope-known (c .args .book .now) (c .args .table .now) (c .pre) (c .scope-of-scope .result .now) (c .scope-of-scope .ensures) j here in
-    let read = readable-at (c .args .book .now) (c .args .table .now) (c .pre) _ _ (c .scope-of-scope .ensures) (c .rows-of .ensures) .known j here in
+    let here : j < length scope = c .loop-j-test .taken in
+    let known = scope-known (c .args .book .now) (c .args .table .now) (c .pre) scope (c .scope-of-scope .ensures) j here in
+    let read = readable-at (c .args .book .now) (c .args .table .now) (c .pre) scope _ (c .scope-of-scope .ensures) (c .rows-of .ensures) .known j here in
     elim (c .if-new-old .came) [
       | then-new-old w ↦
-          subst₂ (Cutting n t seen before (j + 1)) (sym (w .sets-is)) (sym (w .changed-is))
-          (cutting-cut n t seen before j (c .loop-j .sets) (c .loop-j .changed) (c .loop-j .inv) here (omega (arith, read)) known coll (w .if-new-old .taken))
+          subst₂ (Cutting n t seen before (j + 1)) (sym (w .sets-is)) (ap (bitOr (c .loop-j .changed)) (sym (one-shl (getD scope j 0) 32 (omega (arith, read)))) ∙ sym (w .changed-is))
+          (cutting-cut n t seen before j (c .loop-j .sets) (c .loop-j .changed) (c .loop-j .inv) here (omega (arith, read)) known
+          (collected (placed before) scope _ (rowsOf (c .args .book .now) (c .args .table .now)) seen (c .rows-of .ensures) (c .support-found .ensures .values)) (w .if-new-old .taken))
       | else-new-old w ↦
           subst₂ (Cutting n t seen before (j + 1)) (sym (w .sets-is)) (sym (w .changed-is))
           (cutting-same n t seen before j (c .loop-j .sets) (c .loop-j .changed) (c .loop-j .inv) (w .if-new-old .left))
@@ -54,8 +59,14 @@ loop-j-again c =
 pub returns : need.returns
 returns c =
     let n = length (contents (c .args .book .now) .sizes) in
-    let t = tableFrom (c .scope-of-scope .result .now) (rowsOf (c .args .book .now) (c .args .table .now)) in
-    let coll = subst (λ rows. Collects (placed (c .args .sets .now)) (tableFrom (c .scope-of-scope .result .now) rows) (c .support-found .result .values)) (c .rows-of .ensures) (c .support-found .ensures .values) in
-    subst (λ t. Cut n (Upheld t) (c .args .sets .now) (c .loop-j .sets) (c .loop-j .changed))
-    (table-at (c .args .book .now) (c .args .table .now) (c .pre) _ _ (c .scope-of-scope .ensures) refl)
-    (cutting-all n t (c .support-found .result .values) (c .args .sets .now) (c .loop-j .j) (c .loop-j .sets) (c .loop-j .changed) (c .loop-j-test .left) coll (c .loop-j .inv))
+    let scope = c .scope-of-scope .result .now in
+    let rows = rowsOf (c .args .book .now) (c .args .table .now) in
+    let seen = c .support-found .result .values in
+    let before = c .args .sets .now in
+    subst (λ t. Revised n t before (c .loop-j .sets) (c .loop-j .changed))
+    (table-at (c .args .book .now) (c .args .table .now) (c .pre) scope rows (c .scope-of-scope .ensures) refl)
+    (cutting-all n (tableFrom scope rows) seen before (c .loop-j .j) (c .loop-j .sets) (c .loop-j .changed) (c .loop-j-test .left)
+    (collected (placed before) scope _ rows seen (c .rows-of .ensures) (c .support-found .ensures .values)) (c .loop-j .inv))
+
+pub shl-changed : need.shl-changed
+shl-changed c = omega (arith, readable-at (c .args .book .now) (c .args .table .now) (c .pre) _ _ (c .scope-of-scope .ensures) (c .rows-of .ensures) .known (c .loop-j .j) (c .loop-j-test .taken))
