@@ -15,10 +15,11 @@ use Rattle.std.proofs.shelf.Sums.{sumBy-push}
 use Rattle.std.proofs.shelf.Tests.{cases-lt, true≢false}
 use Rattle.std.proofs.shelf.Ways.{same-from-decides}
 use Rattle.book.specs.Contents.{Table, Listed}
-use Rattle.propagate.specs.Sets.{Sets, In}
+use Rattle.values.specs.Members.{In}
+use Rattle.propagate.specs.Sets.{Sets}
 use Rattle.propagate.specs.Support.{Live, Support, isLive}
 use Rattle.propagate.specs.Steps.{Collects, tableFrom}
-use Rattle.propagate.proofs.Digits.{in-either, in-or, in-zero, in-one, in-one-only}
+use Rattle.values.proofs.Digits.{in-either, in-or, in-zero, in-one, in-one-only}
 use Rattle.propagate.proofs.Living.{isLive-decides}
 
 module _ (rows : List (List ℕ)) (new : List ℕ) where

@@ -12,10 +12,11 @@ use Rattle.std.proofs.shelf.Lists.{getD-set-same, getD-set-other}
 use Rattle.std.proofs.shelf.Sums.{sumBy-set}
 use Rattle.std.proofs.shelf.Tests.{cases-eq, cases-lt}
 use Rattle.book.specs.Contents.{Table}
-use Rattle.propagate.specs.Sets.{Sets, In, Inside, placed}
+use Rattle.values.specs.Members.{In}
+use Rattle.propagate.specs.Sets.{Sets, Inside, placed}
 use Rattle.propagate.specs.Support.{Mentions, Support, Upheld}
 use Rattle.propagate.specs.Steps.{Cut, Revised, Collects}
-use Rattle.propagate.proofs.Digits.{in-both, in-and, in-either, in-or, in-one, in-one-only, in-zero, in-ge}
+use Rattle.values.proofs.Digits.{in-both, in-and, in-either, in-or, in-one, in-one-only, in-zero, in-ge}
 use Rattle.propagate.proofs.Living.{live-inside, live-like}
 
 pub support-inside : (a b : Sets) (t : Table) (j v : ℕ) → Inside a b → Support a t j v → Support b t j v

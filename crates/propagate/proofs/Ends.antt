@@ -10,11 +10,12 @@ use Rattle.std.specs.shelf.Lists.{All}
 use Rattle.std.proofs.shelf.Lists.{getD-past}
 use Rattle.std.proofs.shelf.Tests.{cases-lt}
 use Rattle.book.specs.Contents.{Table, Contents, ValidTable, Valid}
-use Rattle.propagate.specs.Sets.{Sets, In, Inside, placed, setsOf}
+use Rattle.values.specs.Members.{In}
+use Rattle.propagate.specs.Sets.{Sets, Inside, placed, setsOf}
 use Rattle.propagate.specs.Support.{Upheld, Closed}
 use Rattle.propagate.specs.Propagation.{Largest, Propagated, LeavesNone, Settled}
 use Rattle.propagate.specs.Steps.{Trimmed, Reached}
-use Rattle.propagate.proofs.Digits.{in-zero, in-mod, below-from-values, full-in}
+use Rattle.values.proofs.Digits.{in-zero, in-mod, below-from-values, full-in}
 use Rattle.propagate.proofs.Cuts.{upheld-like}
 
 -- an option that the book lacks has no value
@@ -73,3 +74,15 @@ module _ (c : Contents) (start trimmed : List ℕ) (trim : Trimmed c start trimm
 
       exact : (x : ℕ) → x < length (c .sizes) → getD end x 0 ≡ setsOf c end x
       exact x l = sym (mod-eq-of-lt (below-from-values (getD end x 0) (getD (c .sizes) x 0) (λ v h. in-mod (getD start x 0) (getD (c .sizes) x 0) v (back x v l h) .1)))
+
+-- Sets that differ from closed ones at some options only are settled but for these.
+pub settled-after : (c : Contents) → Valid c → (a b : List ℕ) → Closed (c .tables) (setsOf c a) → (pending : ℕ) → ((x : ℕ) → x < length (c .sizes) → (In pending x → ⊥) → getD a x 0 ≡ getD b x 0) → Settled (c .tables) (setsOf c b) pending
+settled-after c ok a b closed pending same = go (c .tables) (ok .tables) closed
+  where
+    go : (tables : List Table) → All (ValidTable (c .sizes)) tables → Closed tables (setsOf c a) → Settled tables (setsOf c b) pending
+    go [] ok up = tt
+    go (t ∷ ts) ok up = (
+      λ clear. upheld-like t (setsOf c a) (setsOf c b)
+          (λ j l. ap (λ s. s % 2 ^ getD (c .sizes) (getD (t .scope) j 0) 0) (same (getD (t .scope) j 0) (ok .0 .known j l) (clear (getD (t .scope) j 0) (j, l, refl)))) (up .0),
+      go ts (ok .1) (up .1),
+    )

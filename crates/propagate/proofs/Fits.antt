@@ -9,13 +9,14 @@ use Rattle.std.specs.shelf.Lists.{All, Each}
 use Rattle.std.proofs.shelf.Lists.{getD-map, getD-past, length-map, ext-getD}
 use Rattle.std.proofs.shelf.Tests.{cases-lt}
 use Rattle.book.specs.Contents.{Table, Contents, Listed, onScope, Fit, ValidTable, Valid}
-use Rattle.propagate.specs.Sets.{Sets, In, Inside, setsOf}
+use Rattle.values.specs.Members.{In}
+use Rattle.propagate.specs.Sets.{Sets, Inside, setsOf}
 use Rattle.propagate.specs.Support.{Live, Upheld, Closed}
 use Rattle.propagate.specs.Propagation.{Largest, Propagated, LeavesNone, Ends}
 use Rattle.propagate.specs.Laws.{Within, Loses-no-fit, Ends-one-way, Emptied-where-empty}
 use Rattle.propagate.specs.declared.outcome.Outcome.{Outcome}
 use Rattle.propagate.specs.declared.outcome.Outcome.the-variants.{Narrowed, Emptied}
-use Rattle.propagate.proofs.Digits.{in-one, in-one-only, in-zero, no-values, same-from-values}
+use Rattle.values.proofs.Digits.{in-one, in-one-only, in-zero, no-values, same-from-values}
 use Rattle.propagate.proofs.Ends.{none-past}
 
 -- the sets of one value each

@@ -11,7 +11,8 @@ use Rattle.std.proofs.shelf.Lists.{getD-take, length-take-le}
 use Rattle.std.proofs.shelf.Elements.{each-getD, length-each}
 use Rattle.std.proofs.shelf.Tests.{true≢false, false≢true}
 use Rattle.std.proofs.shelf.Ways.{decides-and, decides-eqb}
-use Rattle.propagate.specs.Sets.{Sets, In, Inside}
+use Rattle.values.specs.Members.{In}
+use Rattle.propagate.specs.Sets.{Sets, Inside}
 use Rattle.propagate.specs.Support.{Live, isIn, isLive}
 
 pub each-from-getD : (R : ℕ → ℕ → Type 0) (xs ys : List ℕ) → length xs ≡ length ys → ((k : ℕ) → k < length xs → R (getD xs k 0) (getD ys k 0)) → Each R xs ys

@@ -9,11 +9,12 @@ use lib.Bits.{bitOr}
 use Rattle.std.specs.shelf.Lists.{All, sum}
 use Rattle.std.proofs.shelf.Elements.{all-push, all-weaker}
 use Rattle.book.specs.Contents.{Table, Contents}
-use Rattle.propagate.specs.Sets.{Sets, In, Inside, placed}
+use Rattle.values.specs.Members.{In}
+use Rattle.propagate.specs.Sets.{Sets, Inside, placed}
 use Rattle.propagate.specs.Support.{Mentions, Upheld, Closed}
 use Rattle.propagate.specs.Propagation.{Avoids, Settled}
 use Rattle.propagate.specs.Steps.{Cut, Revised, Rounded}
-use Rattle.propagate.proofs.Digits.{in-either, in-or, in-zero, in-ge, no-values}
+use Rattle.values.proofs.Digits.{in-either, in-or, in-zero, in-ge, no-values}
 use Rattle.propagate.proofs.Cuts.{upheld-like}
 
 -- the round after the tables `done`

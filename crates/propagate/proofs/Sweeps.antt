@@ -10,11 +10,12 @@ use Rattle.std.specs.Orderings.{Decides, When}
 use Rattle.std.proofs.shelf.Elements.{all-weaker}
 use Rattle.std.proofs.shelf.Tests.{cases-eq, false≢true}
 use Rattle.book.specs.Contents.{Contents}
-use Rattle.propagate.specs.Sets.{Sets, In, Inside, placed}
+use Rattle.values.specs.Members.{In}
+use Rattle.propagate.specs.Sets.{Sets, Inside, placed}
 use Rattle.propagate.specs.Support.{Upheld, Closed}
 use Rattle.propagate.specs.Propagation.{Largest, LeavesNone, Avoids, Settled}
 use Rattle.propagate.specs.Steps.{Cut, Rounded, Reached}
-use Rattle.propagate.proofs.Digits.{in-zero}
+use Rattle.values.proofs.Digits.{in-zero}
 
 -- nothing was put in, nothing that closed sets have was taken away, and these options are left to look at
 pub record Sweeping (c : Contents) (before now : List ℕ) (left : ℕ) : Type 0 where

@@ -4,7 +4,8 @@ use mathlib.Core.List.{List}
 use Prim.Native.Nat.{ℕ, _<_}
 use lib.ListN.{length, getD}
 use Rattle.book.specs.Contents.{Contents, Fit, Valid}
-use Rattle.propagate.specs.Sets.{Sets, In, setsOf}
+use Rattle.values.specs.Members.{In}
+use Rattle.propagate.specs.Sets.{Sets, setsOf}
 use Rattle.propagate.specs.Propagation.{Largest, LeavesNone, Ends}
 use Rattle.propagate.specs.declared.outcome.Outcome.{Outcome}
 use Rattle.propagate.specs.declared.outcome.Outcome.the-variants.{Narrowed}

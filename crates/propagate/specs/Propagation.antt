@@ -5,7 +5,8 @@ use Prim.Native.Nat.{ℕ, _<_, _≤_}
 use lib.ListN.{length, getD}
 use Rattle.std.specs.shelf.Lists.{All}
 use Rattle.book.specs.Contents.{Table, Contents}
-use Rattle.propagate.specs.Sets.{Sets, In, Inside, setsOf}
+use Rattle.values.specs.Members.{In}
+use Rattle.propagate.specs.Sets.{Sets, Inside, setsOf}
 use Rattle.propagate.specs.Support.{Mentions, Upheld, Closed}
 use Rattle.propagate.specs.declared.outcome.Outcome.{Outcome}
 use Rattle.propagate.specs.declared.outcome.Outcome.the-variants.{Narrowed, Emptied}

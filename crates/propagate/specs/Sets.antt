@@ -1,13 +1,9 @@
--- Value sets. A set of values is a number, in which value v is worth 2 ^ v; value sets give each option a set of its values.
-use mathlib.Core.Path.{_≡_}
+-- Value sets give each option a set of its values.
 use mathlib.Core.List.{List}
-use Prim.Native.Nat.{ℕ, _/_, _%_, _^_}
+use Prim.Native.Nat.{ℕ, _%_, _^_}
 use lib.ListN.{getD}
+use Rattle.values.specs.Members.{In}
 use Rattle.book.specs.Contents.{Contents}
-
--- v is in the set s
-abbrev pub In : ℕ → ℕ → Type 0
-In s v = s / 2 ^ v % 2 ≡ 1
 
 -- value sets: the set of each option
 abbrev pub Sets : Type 0

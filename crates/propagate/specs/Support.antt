@@ -7,7 +7,8 @@ use lib.Dec.{eqb}
 use lib.ListN.{length, getD}
 use Rattle.std.specs.shelf.Lists.{All, Each}
 use Rattle.book.specs.Contents.{Table, Contents, Listed}
-use Rattle.propagate.specs.Sets.{Sets, In}
+use Rattle.values.specs.Members.{In}
+use Rattle.propagate.specs.Sets.{Sets}
 
 -- the scope has the option
 abbrev pub Mentions : List ℕ → ℕ → Type 0

@@ -10,9 +10,9 @@ ghost use Rattle.propagate.specs.Propagation.{LeavesNone, Ends, Settled};
 use crate::layout::sizes_of;
 use crate::outcome::Outcome;
 use crate::sets::ValueSets;
-use crate::sets::full;
 use crate::tables::round;
 use book::Book;
+use values::full;
 
 /// Takes out the values that the options lack.
 pub fn trim(book: &Book, sets: &mut [u32; 24])

@@ -20,6 +20,3 @@ pub use outcome::Outcome;
 pub use rows::Supported;
 pub use rows::support;
 pub use sets::ValueSets;
-pub use sets::full;
-pub use sets::has;
-pub use sets::size;

@@ -8,8 +8,8 @@ ghost use Rattle.std.specs.shelf.Lists.{countBy};
 ghost use Rattle.propagate.specs.Sets.{placed};
 ghost use Rattle.propagate.specs.Support.{Live, isLive};
 ghost use Rattle.propagate.specs.Steps.{Readable, Collects, tableFrom};
-use crate::sets::has;
 use book::Row;
+use values::has;
 
 /// What a pass over a table's rows finds: the values with support at each place of the scope, and how many rows are live.
 #[derive(Clone, Copy)]

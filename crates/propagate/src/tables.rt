@@ -6,16 +6,17 @@ ghost use Rattle.std.specs.Orderings.{Decides};
 ghost use Rattle.std.specs.shelf.Lists.{Has};
 ghost use Rattle.book.specs.Layout.{tableOf};
 ghost use Rattle.book.specs.Books.{contents, rowsAt, tablesAt};
-ghost use Rattle.propagate.specs.Sets.{In, placed};
+ghost use Rattle.values.specs.Members.{In};
+ghost use Rattle.propagate.specs.Sets.{placed};
 ghost use Rattle.propagate.specs.Support.{Mentions};
 ghost use Rattle.propagate.specs.Propagation.{Settled};
 ghost use Rattle.propagate.specs.Steps.{Revised, Rounded};
 use crate::layout::rows_of;
 use crate::layout::scope_of;
 use crate::rows::support;
-use crate::sets::has;
 use book::Book;
 use book::TableIndex;
+use values::has;
 
 /// Takes the values without support in the table out of the sets of its scope, and gives the options that lost some.
 pub fn revise(book: &Book, table: &TableIndex, sets: &mut [u32; 24]) -> u32

@@ -10,9 +10,10 @@ use Rattle.std.specs.shelf.Lists.{All}
 use Rattle.std.proofs.shelf.Elements.{all-push}
 use Rattle.std.proofs.shelf.Tests.{cases-lt}
 use Rattle.book.specs.Contents.{Table, ValidTable}
-use Rattle.propagate.specs.Sets.{Sets, In}
+use Rattle.values.specs.Members.{In}
+use Rattle.propagate.specs.Sets.{Sets}
 use Rattle.propagate.specs.Support.{Mentions}
-use Rattle.propagate.proofs.Digits.{in-either, in-or, in-zero, in-one, in-one-only}
+use Rattle.values.proofs.Digits.{in-either, in-or, in-zero, in-one, in-one-only}
 use Rattle.propagate.proofs.Living.{live-like}
 use Rattle.propagate.proofs.Cuts.{all-parts}
 use Rattle.reduce.specs.Universal.{Universal, Free}

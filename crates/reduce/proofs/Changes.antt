@@ -18,10 +18,11 @@ use Rattle.std.proofs.shelf.Lists.{ext-getD}
 use Rattle.std.proofs.shelf.Tests.{cases-lt, cases-eq, true≢false}
 use Rattle.std.proofs.shelf.Ways.{decides-eqb}
 use Rattle.book.specs.Contents.{Table, Contents, Listed, onScope, Fit, ValidTable, Valid}
-use Rattle.propagate.specs.Sets.{Sets, In, setsOf}
+use Rattle.values.specs.Members.{In}
+use Rattle.propagate.specs.Sets.{Sets, setsOf}
 use Rattle.propagate.specs.Support.{isIn}
 use Rattle.propagate.specs.Laws.{Within}
-use Rattle.propagate.proofs.Digits.{in-mod, trailing-member}
+use Rattle.values.proofs.Digits.{in-mod, trailing-member}
 use Rattle.propagate.proofs.Fits.{live-on}
 use Rattle.reduce.specs.Universal.{Universal, Free}
 use Rattle.reduce.specs.Boxes.{Whole, LeftOut, BoxOf, Meets}

@@ -6,14 +6,17 @@ use Prim.Native.Nat.{ℕ, zero, suc, _+_, _*_, _^_, _<_, _≤_}
 use native.Mathlib.Omega.{arith}
 use lib.ListN.{length, getD}
 use lib.Count.{ones}
+use lib.Dec.{eqb}
 use Rattle.std.specs.Orderings.{Decides}
 use Rattle.std.specs.shelf.Lists.{All, joined, kept-by, countBy}
 use Rattle.std.proofs.shelf.Lists.{length-map}
 use Rattle.std.proofs.shelf.Sums.{length-kept-by}
+use Rattle.std.proofs.shelf.Tests.{eqb-true, eq-eqb}
 use Rattle.book.specs.Contents.{Table, Listed}
-use Rattle.propagate.specs.Sets.{Sets, In}
+use Rattle.values.specs.Members.{In}
+use Rattle.propagate.specs.Sets.{Sets}
 use Rattle.propagate.specs.Support.{Live, isLive}
-use Rattle.propagate.proofs.Digits.{in-lt}
+use Rattle.values.proofs.Digits.{in-lt}
 use Rattle.propagate.proofs.Living.{isLive-decides}
 use Rattle.reduce.specs.Universal.{Universal, ways}
 use Rattle.reduce.proofs.Distinct.{Among, Distinct, no-longer, exhausts, among-kept, kept-among, distinct-kept, among-map, map-among, distinct-map, among-joined, joined-among, distinct-joined, length-joined}
@@ -120,3 +123,10 @@ module _ (k : ℕ) (sets : Sets) (small : (x : ℕ) → sets x < 2 ^ k) where
           no-longer (combos (t .scope)) (kept-by (isLive sets (t .scope)) (t .rows)) (combos-distinct (t .scope))
               (λ z h. among-kept (isLive sets (t .scope)) z (t .rows) (listed-among (t .rows) z (all z (combos-live (t .scope) z h))) (isLive-decides sets (t .scope) z .1 (combos-live (t .scope) z h))),
         )
+
+    -- the test that compares the two numbers, where the live rows were counted over another form of the table
+    pub decides-universal : (s : Table) → s ≡ t → (many all : ℕ) → many ≡ countBy (isLive sets (s .scope)) (s .rows) → all ≡ ways sets (s .scope) → Decides (eqb many all) (Universal sets t)
+    decides-universal s e many all p q =
+        let many-is = p ∙ ap (λ t. countBy (isLive sets (t .scope)) (t .rows)) e in
+        let all-is = q ∙ ap (λ t. ways sets (t .scope)) e in
+        (λ h. universal-if (sym many-is ∙ eqb-true many all h ∙ all-is), λ u. eq-eqb many all (many-is ∙ count-if u ∙ sym all-is))

@@ -11,8 +11,8 @@ use lib.Count.{ones, ones-step}
 use lib.Dec.{eqb}
 use Rattle.std.proofs.shelf.Tests.{true≢false}
 use Rattle.std.proofs.shelf.Ways.{decides-eqb}
-use Rattle.propagate.specs.Sets.{In}
-use Rattle.propagate.proofs.Digits.{in-suc, in-half, ones-zero}
+use Rattle.values.specs.Members.{In}
+use Rattle.values.proofs.Digits.{in-suc, in-half, ones-zero}
 use Rattle.reduce.proofs.Distinct.{Among, Distinct}
 
 -- each o more than it is; k is how many digits are looked at

@@ -8,7 +8,8 @@ use lib.ListN.{length, getD, set, replicate}
 use Rattle.std.proofs.shelf.Lists.{getD-set-same, getD-set-other, getD-replicate, getD-past, length-replicate, length-set}
 use Rattle.std.proofs.shelf.Tests.{cases-lt, cases-eq}
 use Rattle.book.specs.Contents.{Contents, Valid}
-use Rattle.propagate.specs.Sets.{Sets, In, placed, setsOf}
+use Rattle.values.specs.Members.{In}
+use Rattle.propagate.specs.Sets.{Sets, placed, setsOf}
 use Rattle.propagate.specs.Steps.{Trimmed}
 use Rattle.reduce.specs.Boxes.{Whole, LeftOut, BoxOf}
 use Rattle.reduce.specs.Steps.{Binds, Records}

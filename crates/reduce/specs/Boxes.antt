@@ -5,7 +5,8 @@ use mathlib.Core.Logic.{_⊎_}
 use Prim.Native.Nat.{ℕ, _<_, _≤_}
 use lib.ListN.{length, getD}
 use Rattle.book.specs.Contents.{Contents}
-use Rattle.propagate.specs.Sets.{In, setsOf}
+use Rattle.values.specs.Members.{In}
+use Rattle.propagate.specs.Sets.{setsOf}
 use Rattle.reduce.specs.Universal.{Free}
 
 -- The set of the option is whole: it holds all its values of the book.

@@ -4,7 +4,8 @@ use mathlib.Core.Logic.{_⊎_}
 use mathlib.Core.List.{List}
 use Prim.Native.Nat.{ℕ}
 use Rattle.book.specs.Contents.{Table}
-use Rattle.propagate.specs.Sets.{Sets, In}
+use Rattle.values.specs.Members.{In}
+use Rattle.propagate.specs.Sets.{Sets}
 use Rattle.propagate.specs.Support.{Mentions}
 use Rattle.reduce.specs.Universal.{Free}
 

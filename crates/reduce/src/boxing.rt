@@ -4,18 +4,19 @@ ghost use Prim.Native.Nat.{ℕ, _^_, _<_, _≤_};
 ghost use lib.ListN.{length, getD};
 ghost use Rattle.std.specs.Orderings.{Decides};
 ghost use Rattle.book.specs.Books.{contents};
-ghost use Rattle.propagate.specs.Sets.{In, placed};
+ghost use Rattle.values.specs.Members.{In};
+ghost use Rattle.propagate.specs.Sets.{placed};
 ghost use Rattle.reduce.specs.Boxes.{BoxOf};
 ghost use Rattle.reduce.specs.Steps.{Marks, Binds, Records};
 use crate::tables::covers;
 use book::Book;
 use boxes::ValueBox;
 use propagate::ValueSets;
-use propagate::full;
-use propagate::has;
 use propagate::scope_of;
 use propagate::sizes_of;
 use propagate::trim;
+use values::full;
+use values::has;
 
 /// The set of options with those of the scope put in.
 fn mark(options: u32, scope: &[u8]) -> u32

@@ -13,9 +13,9 @@ use book::TableIndex;
 use propagate::ValueSets;
 use propagate::rows_of;
 use propagate::scope_of;
-use propagate::size;
 use propagate::support;
 use propagate::trim;
+use values::size;
 
 /// How many combinations of values the scope's sets have.
 fn combinations(scope: &[u8], sets: &[u32; 24]) -> usize

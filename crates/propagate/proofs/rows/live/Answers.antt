@@ -4,7 +4,8 @@ use native.Mathlib.Omega.{arith}
 use lib.ListN.{length, getD}
 use borrow.Author.Needs.{needs}
 use Rattle.std.proofs.shelf.Tests.{false≢true}
-use Rattle.propagate.specs.Sets.{In, placed}
+use Rattle.values.specs.Members.{In}
+use Rattle.propagate.specs.Sets.{placed}
 use Rattle.propagate.proofs.Living.{live-if, if-live}
 use Rattle.propagate.proofs.rows.live.Needs as need
 

@@ -1,6 +1,6 @@
 use Prim.Native.Nat.{ℕ, _<_}
 use lib.ListN.{getD}
-use Rattle.propagate.specs.Sets.{In}
+use Rattle.values.specs.Members.{In}
 use Rattle.propagate.proofs.rows.live.Given as given
 
 abbrev pub Inv-loop-j : given.InvT-loop-j

@@ -1,6 +1,6 @@
 use Prim.Native.Nat.{ℕ, _<_}
 use lib.ListN.{getD}
-use Rattle.propagate.specs.Sets.{In}
+use Rattle.values.specs.Members.{In}
 use Rattle.propagate.proofs.tables.touches.Given as given
 
 abbrev pub Inv-loop-x : given.InvT-loop-x

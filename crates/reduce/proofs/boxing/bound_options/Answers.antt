@@ -1,35 +1,24 @@
 use mathlib.Core.Path.{_≡_, sym, ap, subst, _∙_}
 use mathlib.Core.List.{List, [], _∷_, _++_, map}
-use mathlib.Core.Bool.{Bool, true, false}
 use Prim.Native.Nat.{ℕ, _+_, _<_}
 use native.Mathlib.Omega.{arith}
 use lib.ListN.{length, getD, take}
-use Rattle.std.specs.shelf.Lists.{All, Has}
 use Rattle.std.proofs.shelf.Lists.{take-all, map-more}
-use Rattle.std.proofs.shelf.Elements.{has-getD}
 use Rattle.std.proofs.shelf.Ways.{not-from-decides}
-use Rattle.book.specs.declared.index.TableIndex.{TableIndex}
 use Rattle.propagate.specs.Sets.{placed}
-use Rattle.propagate.proofs.Books.{tableAt, valid, scope-known}
+use Rattle.propagate.proofs.Books.{tableAt, blank, one-of, valid, scope-known}
 use Rattle.reduce.specs.Steps.{Marks, Binds}
 use Rattle.reduce.proofs.Bindings.{binds-none, binds-universal, binds-marked}
 use Rattle.reduce.proofs.boxing.bound_options.Needs as need
 use Rattle.reduce.proofs.boxing.bound_options.Needs.{then-not-covers, else-not-covers}
 
--- what stands past the end of a list of tables
-abbrev blank : TableIndex
-blank = record { scope = []; arity = 0; start = 0; count = 0 }
-
 pub covers-requires : need.covers-requires
-covers-requires c κs =
-    subst (λ ts. Has ts (getD (c .tables-tables .result .now) (c .loop-table .table-index) blank)) (c .tables-tables .ensures)
-    (has-getD (c .tables-tables .result .now) (c .loop-table .table-index) blank (c .loop-table-test .taken))
+covers-requires c κs = one-of (c .args .book .now) (c .tables-tables .result .now) (c .loop-table .table-index) (c .tables-tables .ensures) (c .loop-table-test .taken)
 
 pub mark-bound-requires : need.mark-bound-requires
 mark-bound-requires c κs j l =
     let b = c .args .book .now in
-    let one = subst (λ ts. Has ts (getD (c .tables-tables .result .now) (c .loop-table .table-index) blank)) (c .tables-tables .ensures)
-    (has-getD (c .tables-tables .result .now) (c .loop-table .table-index) blank (c .loop-table-test .taken)) in
+    let one = one-of b (c .tables-tables .result .now) (c .loop-table .table-index) (c .tables-tables .ensures) (c .loop-table-test .taken) in
     omega (arith, scope-known b (getD (c .tables-tables .result .now) (c .loop-table .table-index) blank) one _ (c .scope-of .ensures) j l, valid b .few)
 
 pub loop-table-holds : need.loop-table-holds

@@ -1,7 +1,7 @@
 use mathlib.Core.Path.{_≡_, sym, subst, _∙_}
 use Rattle.std.proofs.shelf.Tests.{eqb-true, eq-eqb}
-use Rattle.propagate.specs.Sets.{In}
-use Rattle.propagate.proofs.Digits.{full-in, full-if}
+use Rattle.values.specs.Members.{In}
+use Rattle.values.proofs.Digits.{full-in, full-if}
 use Rattle.reduce.proofs.boxing.whole.Needs as need
 
 pub returns : need.returns

@@ -3,31 +3,22 @@ use mathlib.Core.List.{[], map}
 use Prim.Native.Nat.{ℕ, _<_}
 use native.Mathlib.Omega.{arith}
 use lib.ListN.{length, getD}
-use Rattle.std.specs.shelf.Lists.{Has}
 use Rattle.std.proofs.shelf.Lists.{getD-map, length-map}
-use Rattle.std.proofs.shelf.Elements.{has-getD}
 use Rattle.std.proofs.shelf.Tests.{false≢true}
 use Rattle.std.proofs.shelf.Ways.{decides-like}
 use Rattle.book.specs.Contents.{Table}
 use Rattle.book.specs.Books.{contents, tablesAt}
-use Rattle.book.specs.declared.index.TableIndex.{TableIndex}
 use Rattle.propagate.specs.Sets.{placed, setsOf}
-use Rattle.propagate.proofs.Books.{tableAt, table-valid}
+use Rattle.propagate.proofs.Books.{tableAt, blank, one-of, table-valid}
 use Rattle.reduce.specs.Universal.{Universal}
 use Rattle.reduce.proofs.Bindings.{universal-like}
 use Rattle.reduce.proofs.tables.universal.Needs as need
-
--- what stands past the end of a list of tables
-abbrev blank : TableIndex
-blank = record { scope = []; arity = 0; start = 0; count = 0 }
 
 abbrev no-table : Table
 no-table = record { scope = []; rows = [] }
 
 pub covers-requires : need.covers-requires
-covers-requires c κs =
-    subst (λ ts. Has ts (getD (c .tables-tables .result .now) (c .args .table) blank)) (c .tables-tables .ensures)
-    (has-getD (c .tables-tables .result .now) (c .args .table) blank (c .if-table-tables .left))
+covers-requires c κs = one-of (c .args .book .now) (c .tables-tables .result .now) (c .args .table) (c .tables-tables .ensures) (c .if-table-tables .left)
 
 pub returns-then-table-tables : need.returns-then-table-tables
 returns-then-table-tables c = (
@@ -41,7 +32,7 @@ returns c =
     let i = c .args .table in
     let tables = c .tables-tables .result .now in
     let t = getD tables i blank in
-    let one : Has (tablesAt b) t = subst (λ ts. Has ts t) (c .tables-tables .ensures) (has-getD tables i blank (c .if-table-tables .left)) in
+    let one = one-of b tables i (c .tables-tables .ensures) (c .if-table-tables .left) in
     let known = table-valid b t one .known in
     let within : i < length (contents b .tables) = omega (arith, c .if-table-tables .left, ap length (c .tables-tables .ensures), length-map (tablesAt b) (tableAt b)) in
     let inner : i < length (tablesAt b) = omega (arith, c .if-table-tables .left, ap length (c .tables-tables .ensures)) in

@@ -10,7 +10,7 @@ use Rattle.std.proofs.shelf.Bits.{shl-shr, shr-shr, shr-split, pow-below, and-m
 use lib.Count.{trailingZeros, under, ones}
 use native.Mathlib.Numerals.{one-add}
 use Rattle.std.proofs.shelf.Tests.{cases-order, cases-lt, cases-eq}
-use Rattle.propagate.specs.Sets.{In}
+use Rattle.values.specs.Members.{In}
 
 digit : (n : ℕ) → n % 2 < 2
 digit n = omega arith

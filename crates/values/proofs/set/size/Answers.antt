@@ -2,7 +2,7 @@ use Prim.Native.Nat.{_<_, _^_}
 use mathlib.Core.Path.{refl}
 use native.Mathlib.Omega.{arith}
 use lib.Count.{ones-le}
-use Rattle.propagate.proofs.sets.size.Needs as need
+use Rattle.values.proofs.set.size.Needs as need
 
 pub cast-result : need.cast-result
 cast-result c = let fits : c .args .set < 2 ^ 32 = omega arith in omega (arith, ones-le 32 (c .args .set) fits)

@@ -2,7 +2,7 @@ use mathlib.Core.Path.{_≡_, ap, sym, _∙_}
 use Prim.Native.Nat.{ℕ, _+_, _*_, _-_, _/_, _^_}
 use native.Mathlib.Omega.{arith}
 use lib.Pow.{ones-split, ones-lt, high}
-use Rattle.propagate.proofs.sets.full.Needs as need
+use Rattle.values.proofs.set.full.Needs as need
 
 pub returns : need.returns
 returns c =
