@@ -106,11 +106,11 @@ module _ (sets : Sets) (scope : List ℕ) (rows : List (List ℕ)) (m : ℕ) (wi
     few = omega (arith, old .few);
   }
 
-  pub found-yes : (next : List ℕ) → Decides true (Live sets scope (take (length scope) (getD rows m [])))
+  pub found-yes : (next : List ℕ) (counted-now : ℕ) → counted-now ≡ count + 1 → Decides true (Live sets scope (take (length scope) (getD rows m [])))
       → ((j : ℕ) → j < length scope → getD next j 0 ≡ bitOr (getD seen j 0) (2 ^ (getD (getD rows m []) j 0 % 32)))
       → ((j : ℕ) → j < length scope → getD (getD rows m []) j 0 < 32)
-      → Found sets scope rows m seen count → Found sets scope rows (m + 1) next (count + 1)
-  found-yes next d is small old = record {
+      → Found sets scope rows m seen count → Found sets scope rows (m + 1) next counted-now
+  found-yes next counted-now one d is small old = record {
     values = subst (λ rs. Collects sets (with scope rs) next) (sym more)
         (collects-yes sets scope (map (take (length scope)) (take m rows)) (take (length scope) (getD rows m [])) seen next (d .0 refl)
         (λ j l. is j l ∙ ap (λ v. bitOr (getD seen j 0) (2 ^ v)) (mod-eq-of-lt (small j l) ∙ sym (getD-take (length scope) (getD rows m []) j 0 l))) (old .values));

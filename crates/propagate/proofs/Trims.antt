@@ -15,8 +15,8 @@ pub record Trimming (sizes before : List ℕ) (m : ℕ) (now : List ℕ) : Type 
   pub done : (y : ℕ) → y < m → getD now y 0 ≡ getD before y 0 % 2 ^ getD sizes y 0
   pub rest : (y : ℕ) → m ≤ y → getD now y 0 ≡ getD before y 0
 
-pub trimming-none : (sizes before : List ℕ) → Trimming sizes before 0 before
-trimming-none sizes before = record { done = λ y l. absurd (omega arith); rest = λ y l. refl }
+pub trimming-none : (sizes before : List ℕ) (m : ℕ) → m ≡ 0 → Trimming sizes before m before
+trimming-none sizes before m z = record { done = λ y l. absurd (omega arith); rest = λ y l. refl }
 
 pub trimming-more : (sizes before : List ℕ) (m : ℕ) (now : List ℕ) (all : ℕ) → m < length now → all ≡ 2 ^ getD sizes m 0 - 1
     → Trimming sizes before m now → Trimming sizes before (m + 1) (set now m (bitAnd (getD now m 0) all))

@@ -1,17 +1,17 @@
 -- A table of distinct rows has as many live rows as there are combinations just where every combination is a row.
 use mathlib.Core.Path.{_≡_, refl, sym, ap, subst, _∙_}
+use mathlib.Core.Bool.{Bool}
 use mathlib.Core.List.{List, [], _∷_, map}
 use mathlib.Core.Logic.{_⊎_, inl, inr}
 use Prim.Native.Nat.{ℕ, zero, suc, _+_, _*_, _^_, _<_, _≤_}
 use native.Mathlib.Omega.{arith}
 use lib.ListN.{length, getD}
 use lib.Count.{ones}
-use lib.Dec.{eqb}
 use Rattle.std.specs.Orderings.{Decides}
 use Rattle.std.specs.shelf.Lists.{All, joined, kept-by, countBy}
 use Rattle.std.proofs.shelf.Lists.{length-map}
 use Rattle.std.proofs.shelf.Sums.{length-kept-by}
-use Rattle.std.proofs.shelf.Tests.{eqb-true, eq-eqb}
+use Rattle.std.proofs.shelf.Ways.{decides-like}
 use Rattle.book.specs.Contents.{Table, Listed}
 use Rattle.values.specs.Members.{In}
 use Rattle.propagate.specs.Sets.{Sets}
@@ -124,9 +124,9 @@ module _ (k : ℕ) (sets : Sets) (small : (x : ℕ) → sets x < 2 ^ k) where
               (λ z h. among-kept (isLive sets (t .scope)) z (t .rows) (listed-among (t .rows) z (all z (combos-live (t .scope) z h))) (isLive-decides sets (t .scope) z .1 (combos-live (t .scope) z h))),
         )
 
-    -- the test that compares the two numbers, where the live rows were counted over another form of the table
-    pub decides-universal : (s : Table) → s ≡ t → (many all : ℕ) → many ≡ countBy (isLive sets (s .scope)) (s .rows) → all ≡ ways sets (s .scope) → Decides (eqb many all) (Universal sets t)
-    decides-universal s e many all p q =
+    -- a test of whether the two numbers are equal, where the live rows were counted over another form of the table
+    pub decides-universal : (s : Table) → s ≡ t → (many all : ℕ) → many ≡ countBy (isLive sets (s .scope)) (s .rows) → all ≡ ways sets (s .scope) → (r : Bool) → Decides r (many ≡ all) → Decides r (Universal sets t)
+    decides-universal s e many all p q r =
         let many-is = p ∙ ap (λ t. countBy (isLive sets (t .scope)) (t .rows)) e in
         let all-is = q ∙ ap (λ t. ways sets (t .scope)) e in
-        (λ h. universal-if (sym many-is ∙ eqb-true many all h ∙ all-is), λ u. eq-eqb many all (many-is ∙ count-if u ∙ sym all-is))
+        decides-like r (λ h. universal-if (sym many-is ∙ h ∙ all-is)) (λ u. many-is ∙ count-if u ∙ sym all-is)

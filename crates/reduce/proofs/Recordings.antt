@@ -28,10 +28,10 @@ module _ (bound : ℕ) (sizes values : List ℕ) where
   pub recording-none : Recording bound sizes values 0 (replicate 24 0)
   recording-none = record { done = λ x l. absurd (omega arith); rest = λ x l. zeros 24 x; long = refl }
 
-  pub recording-more : (m : ℕ) (noted : List ℕ) (s : ℕ) → m < 24
+  pub recording-more : (m i : ℕ) (noted : List ℕ) (s : ℕ) → m < 24 → i ≡ m
       → Records (In bound m) ((v : ℕ) → v < getD sizes m 0 → In (getD values m 0) v) (getD values m 0) s
-      → Recording bound sizes values m noted → Recording bound sizes values (m + 1) (set noted m s)
-  recording-more m noted s low made old = record {
+      → Recording bound sizes values m noted → Recording bound sizes values (m + 1) (set noted i s)
+  recording-more m i noted s low at made old = subst (λ i. Recording bound sizes values (m + 1) (set noted i s)) (sym at) record {
     done = λ x l. elim (cases-lt x m) [
       | inl h ↦ subst (Records (In bound x) ((v : ℕ) → v < getD sizes x 0 → In (getD values x 0) v) (getD values x 0)) (sym (getD-set-other noted m x s 0 (omega arith))) (old .done x h)
       | inr g ↦

@@ -7,7 +7,7 @@ use Rattle.propagate.proofs.Trims.{Trimming, trimming-none, trimming-more}
 use Rattle.propagate.proofs.fixpoint.trim.Needs as need
 
 pub loop-x-holds : need.loop-x-holds
-loop-x-holds c = trimming-none _ _
+loop-x-holds c = trimming-none _ _ _ (omega arith)
 
 pub loop-x-again : need.loop-x-again
 loop-x-again c = trimming-more _ _ _ _ _ (omega (arith, c .sizes-of-sizes .ensures .few)) (c .full .ensures) (c .loop-x .inv)

@@ -27,8 +27,8 @@ loop-row-again c =
     let inside : i < length rows = omega arith in
     elim (c .if-live .came) [
       | then-live w ↦
-          subst₂ (Found sets scope rows (i + 1)) (sym (w .values-is)) (sym (w .count-is))
-          (found-yes sets scope rows i inside (c .loop-row .values) (c .loop-row .count) (w .add-next .result)
+          subst (λ seen. Found sets scope rows (i + 1) seen (c .if-live .count)) (sym (w .values-is))
+          (found-yes sets scope rows i inside (c .loop-row .values) (c .loop-row .count) (w .add-next .result) (c .if-live .count) (omega (arith, w .count-is))
           (subst (λ b. Decides b (Live sets scope (take (length scope) (getD rows i [])))) (w .if-live .taken) (c .live .ensures))
           (λ j l. w .add-next .ensures j (omega (arith, c .pre .few))) (λ j l. c .pre .small i j inside l) (c .loop-row .inv))
       | else-live w ↦

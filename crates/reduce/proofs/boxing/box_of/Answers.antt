@@ -18,4 +18,4 @@ returns c =
     (c .sizes-of-sizes .result .now) (c .sizes-of-sizes .ensures .value) (c .loop-x .x) (omega arith) (c .loop-x .noted) (c .loop-x .inv)
 
 pub loop-x-again : need.loop-x-again
-loop-x-again c = recording-more _ _ _ _ _ _ (omega (arith, c .sizes-of-sizes .ensures .few)) (c .recorded .ensures) (c .loop-x .inv)
+loop-x-again c = recording-more _ _ _ (c .loop-x .x) _ (c .loop-x .noted) (c .recorded .result) (omega (arith, c .sizes-of-sizes .ensures .few)) (omega arith) (c .recorded .ensures) (c .loop-x .inv)
