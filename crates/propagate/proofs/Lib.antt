@@ -1,0 +1,10 @@
+pub mod Windows
+pub mod Living
+pub mod Collected
+pub mod Books
+pub mod Cuts
+pub mod Rounds
+pub mod Trims
+pub mod Sweeps
+pub mod Ends
+pub mod Fits

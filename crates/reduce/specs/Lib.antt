@@ -1,0 +1,4 @@
+pub mod Universal
+pub mod Boxes
+pub mod Steps
+pub mod Laws
