@@ -32,6 +32,9 @@ pub impl fmt::Display for Fault as FaultDisplay {
         let bit = self.bit;
         let field = self.field;
         let reason = self.question;
-        write!(f, "refused with {number} at bit {bit}, at {field}: {reason}")
+        write!(
+            f,
+            "refused with {number} at bit {bit}, at {field}: {reason}"
+        )
     }
 }

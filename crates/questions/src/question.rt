@@ -88,12 +88,22 @@ pub impl fmt::Display for Question as QuestionDisplay {
             Question::FieldInside => f.write_str("the field does not end inside the file"),
             Question::Edition => f.write_str("the edition is not 1"),
             Question::Counts => f.write_str("there must be 1 to 24 options and at most 48 tables"),
-            Question::OptionShape => f.write_str("a size must be 1 to 32, and a name 1 to 16 bytes long"),
+            Question::OptionShape => f.write_str(
+                "a size must be 1 to 32, and a name 1 to 16 bytes long",
+            ),
             Question::Kind => f.write_str("the kind of the table is not 0"),
-            Question::Scope => f.write_str("a scope must be 1 to 4 options of the book, in rising order"),
-            Question::RowCount => f.write_str("a table may have 1024 rows, and all tables together 8192"),
-            Question::RowValue => f.write_str("a value must be below its option's size, and a row above the one before it"),
-            Question::Tail => f.write_str("the filling bits must be zero, the name bytes visible characters, and nothing behind them"),
+            Question::Scope => f.write_str(
+                "a scope must be 1 to 4 options of the book, in rising order",
+            ),
+            Question::RowCount => f.write_str(
+                "a table may have 1024 rows, and all tables together 8192",
+            ),
+            Question::RowValue => f.write_str(
+                "a value must be below its option's size, and a row above the one before it",
+            ),
+            Question::Tail => f.write_str(
+                "the filling bits must be zero, the name bytes visible characters, and nothing behind them",
+            ),
             Question::Room => f.write_str("the slice to be filled is too short"),
             Question::Person => f.write_str("the person is not 1 or 2"),
             Question::OptionKnown => f.write_str("the book has no such option"),
@@ -104,7 +114,9 @@ pub impl fmt::Display for Question as QuestionDisplay {
             Question::Budget => f.write_str("a budget must be 1 to 1000000"),
             Question::WorkRoom => f.write_str("a work slice is too short"),
             Question::FitRoom => f.write_str("the slice for the fit is too short"),
-            Question::Fit => f.write_str("the values are no fit that meets every standing decision"),
+            Question::Fit => f.write_str(
+                "the values are no fit that meets every standing decision",
+            ),
         }
     }
 }

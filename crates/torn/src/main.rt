@@ -14,7 +14,43 @@ use std::io;
 
 /// The sample book: gate, divider and stand, of 3, 2 and 2 values, with tables of 4 and 3 rows.
 const SAMPLE: [u8; 37] = [
-    1, 24, 66, 32, 78, 18, 144, 4, 2, 0, 1, 0, 66, 32, 144, 136, 1, 128, 0, 8, 66, 103, 97, 116, 101, 100, 105, 118, 105, 100, 101, 114, 115, 116, 97, 110, 100,
+    1,
+    24,
+    66,
+    32,
+    78,
+    18,
+    144,
+    4,
+    2,
+    0,
+    1,
+    0,
+    66,
+    32,
+    144,
+    136,
+    1,
+    128,
+    0,
+    8,
+    66,
+    103,
+    97,
+    116,
+    101,
+    100,
+    105,
+    118,
+    105,
+    100,
+    101,
+    114,
+    115,
+    116,
+    97,
+    110,
+    100,
 ];
 
 /// Both readings of a file; a line says what the library found, and whether the second reading found the same.
@@ -23,7 +59,10 @@ fn compare(rt: &LibcRuntime, what: &str, file: &[u8], rows: &mut [Row]) -> io::R
     let ours = first(file, rows);
     let alike = if ours == theirs { "alike" } else { "DIFFERENT" };
     match ours {
-        Finding::Refused(number, bit) => println!(rt, "{what}: refused with {number} at {bit}, {alike}"),
+        Finding::Refused(number, bit) => println!(
+            rt,
+            "{what}: refused with {number} at {bit}, {alike}"
+        ),
         Finding::Book(_) => println!(rt, "{what}: read, {alike}"),
     }
 }
@@ -53,7 +92,10 @@ fn turned(rt: &LibcRuntime, rows: &mut [Row]) -> io::Result<()> {
             alike = alike.wrapping_add(1);
         }
     }
-    println!(rt, "each of 296 bits turned: {read} read, {refused} refused, {alike} alike")
+    println!(
+        rt,
+        "each of 296 bits turned: {read} read, {refused} refused, {alike} alike"
+    )
 }
 
 fn bounds(rt: &LibcRuntime, rows: &mut [Row]) -> io::Result<()> {
@@ -61,7 +103,16 @@ fn bounds(rt: &LibcRuntime, rows: &mut [Row]) -> io::Result<()> {
     compare(rt, "a table of 1024 rows", &build(heap, 3, &[1024])?, rows)?;
     compare(rt, "a table of 1025 rows", &build(heap, 3, &[1025])?, rows)?;
     compare(rt, "8192 rows together", &build(heap, 3, &[1024; 8])?, rows)?;
-    compare(rt, "8193 rows together", &build(heap, 3, &[1024, 1024, 1024, 1024, 1024, 1024, 1024, 1024, 1])?, rows)?;
+    compare(
+        rt,
+        "8193 rows together",
+        &build(
+            heap,
+            3,
+            &[1024, 1024, 1024, 1024, 1024, 1024, 1024, 1024, 1],
+        )?,
+        rows,
+    )?;
     compare(rt, "24 options", &build(heap, 24, &[])?, rows)?;
     compare(rt, "25 options", &build(heap, 25, &[])?, rows)?;
     compare(rt, "no option", &build(heap, 0, &[])?, rows)?;

@@ -9,7 +9,9 @@ pub enum Finding {
 
 /// One number more into a digest.
 pub fn mix(digest: u64, number: usize) -> u64 {
-    (digest ^ (number as u64)).wrapping_mul(1099511628211).rotate_left(7)
+    (digest ^ (number as u64))
+        .wrapping_mul(1099511628211)
+        .rotate_left(7)
 }
 
 /// Goes through a file; once refused, it reads nothing more.
@@ -59,7 +61,14 @@ impl Scan<'_> {
         value
     }
 
-    fn row(&mut self, scope: &[usize; 4], arity: usize, sizes: &[usize; 24], last: &mut [usize; 4], fresh: bool) {
+    fn row(
+        &mut self,
+        scope: &[usize; 4],
+        arity: usize,
+        sizes: &[usize; 24],
+        last: &mut [usize; 4],
+        fresh: bool,
+    ) {
         let first = self.at;
         let mut row = [0usize; 4];
         for j in 0..4 {
