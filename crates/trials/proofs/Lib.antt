@@ -1,0 +1,4 @@
+pub mod OneValue
+pub mod OnePick
+pub mod PlainTrees
+pub mod Halves
