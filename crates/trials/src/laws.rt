@@ -1,9 +1,25 @@
 // What an ask promises: each function stands for a theorem, its contract.
-ghost use Rattle.trials.specs.Laws.{Plain-has-one-result};
+use store::Store;
+ghost use Rattle.trials.specs.Laws.{Plain-has-one-result, Plain-is-right, Memory-loses-no-fit};
 
 /// The plain ask has one result.
 pub fn the_plain_ask_has_one_result() -> u8
     ensures { λ _. ⌜ Plain-has-one-result ⌝ }
+{
+    0
+}
+
+/// What the plain ask finds is a fit of the book inside the starting sets, and where it refutes them none lies inside.
+pub fn the_plain_ask_is_right() -> u8
+    ensures { λ _. ⌜ Plain-is-right ⌝ }
+{
+    0
+}
+
+/// Over every store that holds dead boxes only, an ask has the plain ask's answer and values with no more trials, unless it stops at a
+/// budget that is too small for the plain ask, and it leaves the store so.
+pub fn memory_loses_no_fit<S: Store>() -> u8
+    ensures { λ _. ⌜ Memory-loses-no-fit S S·Store ⌝ }
 {
     0
 }

@@ -1,4 +1,6 @@
 // What an ask is, and what it promises whatever store it remembers by.
 mod laws;
 
+pub use laws::memory_loses_no_fit;
 pub use laws::the_plain_ask_has_one_result;
+pub use laws::the_plain_ask_is_right;
