@@ -4,3 +4,9 @@ pub mod PlainTrees
 pub mod Halves
 pub mod RightAnswers
 pub mod Remembering
+pub mod Choosing
+pub mod SomePick
+pub mod SomeSupport
+pub mod SomePropagation
+pub mod SomeBox
+pub mod PlainEnds

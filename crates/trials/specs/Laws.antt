@@ -17,6 +17,10 @@ use Rattle.trials.specs.Trials.{Verdict, refuted, found, stopped, Asks, Plain}
 abbrev pub Plain-has-one-result : Type 0
 Plain-has-one-result = (c : Contents) (array : List ℕ) (v w : Verdict) (n k : ℕ) → Plain c array v n → Plain c array w k → (v ≡ w) × (n ≡ k)
 
+-- The plain ask ends, and not by stopping.
+abbrev pub Plain-ends : Type 0
+Plain-ends = (c : Contents) → Valid c → (array : List ℕ) → length array ≡ 24 → (v : Verdict) × (n : ℕ) × Plain c array v n × (v ≡ stopped → ⊥)
+
 -- The verdict is right: what is found is a fit of the book inside the sets, and where they are refuted none lies inside. It is not that the ask stopped.
 abbrev pub Right : Contents → List ℕ → Verdict → Type 0
 Right c array refuted = HasFit c array → ⊥

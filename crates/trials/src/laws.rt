@@ -1,10 +1,17 @@
 // What an ask promises: each function stands for a theorem, its contract.
 use store::Store;
-ghost use Rattle.trials.specs.Laws.{Plain-has-one-result, Plain-is-right, Memory-loses-no-fit};
+ghost use Rattle.trials.specs.Laws.{Plain-has-one-result, Plain-ends, Plain-is-right, Memory-loses-no-fit};
 
 /// The plain ask has one result.
 pub fn the_plain_ask_has_one_result() -> u8
     ensures { λ _. ⌜ Plain-has-one-result ⌝ }
+{
+    0
+}
+
+/// The plain ask ends, and not by stopping.
+pub fn the_plain_ask_ends() -> u8
+    ensures { λ _. ⌜ Plain-ends ⌝ }
 {
     0
 }

@@ -2,5 +2,6 @@
 mod laws;
 
 pub use laws::memory_loses_no_fit;
+pub use laws::the_plain_ask_ends;
 pub use laws::the_plain_ask_has_one_result;
 pub use laws::the_plain_ask_is_right;
