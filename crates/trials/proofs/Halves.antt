@@ -1,8 +1,8 @@
 -- The two halves of some sets: the fits inside the sets are those inside the halves.
-use mathlib.Core.Path.{_≡_, refl, sym, ap, subst, _∙_}
+use mathlib.Core.Path.{_≡_, sym, ap, subst, _∙_}
 use mathlib.Core.List.{List}
 use mathlib.Core.Logic.{_⊎_, inl, inr}
-use Prim.Native.Nat.{ℕ, _+_, _-_, _*_, _/_, _%_, _^_, _<_, _≤_}
+use Prim.Native.Nat.{ℕ, _-_, _%_, _^_, _<_}
 use native.Mathlib.Omega.{arith}
 use lib.ListN.{length, getD, set}
 use lib.Bits.{bitAnd, bitXor, xor-add-and}
@@ -11,7 +11,6 @@ use Rattle.std.proofs.shelf.Tests.{cases-eq}
 use Rattle.book.specs.Contents.{Contents}
 use Rattle.values.specs.Members.{In}
 use Rattle.values.proofs.Digits.{in-one, in-one-only, in-both, in-and, in-mod, mod-in, out-in, in-out, same-from-values}
-use Rattle.propagate.specs.Sets.{setsOf}
 use Rattle.propagate.specs.Laws.{Within}
 use Rattle.trials.specs.Trials.{cutTo, cutFrom}
 

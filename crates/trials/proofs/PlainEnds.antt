@@ -1,32 +1,32 @@
 -- The plain ask ends: each half of some sets has a smaller sum.
-use mathlib.Core.Path.{_≡_, refl, sym, ap, subst, _∙_}
+use mathlib.Core.Path.{_≡_, sym, ap, subst}
 use mathlib.Core.List.{List}
-use mathlib.Core.Logic.{_⊎_, inl, inr}
-use Prim.Native.Nat.{ℕ, zero, suc, _+_, _-_, _^_, _<_, _≤_}
+use mathlib.Core.Logic.{inl, inr}
+use Prim.Native.Nat.{ℕ, zero, suc, _+_, _-_, _^_, _<_}
 use native.Mathlib.Omega.{arith}
-use lib.ListN.{length, getD, set}
+use lib.ListN.{length, getD}
 use lib.Count.{ones}
 use lib.Pow.{pow-pos}
-use Rattle.std.specs.declared.option.Option.{Option}
-use Rattle.std.specs.declared.option.Option.the-variants.{Some, None}
+use Rattle.std.specs.declared.option.Option.the-variants.{None}
 use Rattle.std.specs.shelf.Lists.{sum}
 use Rattle.std.proofs.shelf.Sums.{sumBy-set}
-use Rattle.std.proofs.shelf.Tests.{cases-eq}
 use Rattle.book.specs.Contents.{Contents, Valid}
 use Rattle.boxes.specs.declared.ValueBox.{ValueBox}
 use Rattle.values.proofs.Digits.{in-ge}
 use Rattle.store.specs.Blank.{blank}
 use Rattle.store.specs.declared.blank.BlankStore.{BlankStore}
 use Rattle.store.proofs.Steps.{blank-looked, blank-told}
-use Rattle.trials.specs.Picks.{Picked, Single}
-use Rattle.trials.specs.Trials.{Verdict, refuted, found, stopped, Over, Narrows, Boxed, Branches, cutTo, cutFrom, Trial, spent, emptied, settled, seen, left, right, both}
+use Rattle.trials.specs.Picks.{Picked}
+use Rattle.trials.specs.Trials.{Verdict, refuted, found, stopped, Branches, cutTo, cutFrom, Trial, emptied, settled, left, right, both}
+use Rattle.store.specs.Meaning.{Meaning}
+use Rattle.trials.specs.Laws.{Right, Plain-ends, Answers-are-right}
 use Rattle.trials.proofs.OneValue.{one-value}
 use Rattle.trials.proofs.PlainTrees.{tree}
-use Rattle.trials.proofs.RightAnswers.{right-answer, long-left, long-right}
+use Rattle.trials.proofs.RightAnswers.{right-answer, plain-is-right, long-left, long-right}
+use Rattle.trials.proofs.Remembering.{memory-loses-no-fit}
 use Rattle.trials.proofs.SomePick.{single-or-picked}
 use Rattle.trials.proofs.SomePropagation.{narrows-or-empties}
 use Rattle.trials.proofs.SomeBox.{some-box}
-use Rattle.trials.specs.Laws.{Plain-ends}
 
 module _ (c : Contents) (next : List ℕ) (x v : ℕ) (q : Picked c next x v) (low : x < length next) where
   left-less : sum (cutTo next x v) < sum next
@@ -71,9 +71,15 @@ module _ (c : Contents) (ok : Valid c) (s : BlankStore) where
   ]
 
 not-stopped : {c : Contents} {array : List ℕ} {s t : BlankStore} {v : Verdict} {n k : ℕ} → Valid c → length array ≡ 24 → Trial c BlankStore blank None array s n v t k → v ≡ stopped → ⊥
-not-stopped {c} {array} ok long p e = subst (Rattle.trials.specs.Laws.Right c array) e (right-answer ok long (tree p .2))
+not-stopped {c} {array} ok long p e = subst (Right c array) e (right-answer ok long (tree p .2))
 
 pub plain-ends : Plain-ends
 plain-ends c ok array long =
     let r = ends c ok (record {}) (suc (sum array)) array long (omega arith) 0 in
     (r .0, r .1, r .2, not-stopped ok long (r .2))
+
+-- what agrees with the plain ask is right
+pub answers-are-right : (S : Type 0) (m : Meaning S) → Answers-are-right S m
+answers-are-right S m c ok budget array long s t v n only asks ended =
+    let (w, k, plain, _) = plain-ends c ok array long in
+    subst (Right c array) (sym (memory-loses-no-fit S m c ok budget array long s t v w n k only asks plain .same ended)) (plain-is-right c ok array long w k plain)

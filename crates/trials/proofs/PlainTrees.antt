@@ -2,20 +2,18 @@
 use mathlib.Core.Path.{_≡_, refl, sym, ap, ap₂, subst, _∙_}
 use mathlib.Core.List.{List}
 use mathlib.Core.Logic.{_⊎_, inl, inr}
-use Prim.Native.Nat.{ℕ, _+_, _-_, _^_, _<_, _≤_}
+use Prim.Native.Nat.{ℕ, _+_, _≤_}
 use native.Mathlib.Omega.{arith}
-use lib.ListN.{length, getD, set}
-use Rattle.std.specs.declared.option.Option.{Option}
-use Rattle.std.specs.declared.option.Option.the-variants.{Some, None}
+use Rattle.std.specs.declared.option.Option.the-variants.{None}
 use Rattle.book.specs.Contents.{Contents}
-use Rattle.boxes.specs.declared.ValueBox.{ValueBox}
 use Rattle.propagate.specs.Sets.{setsOf}
 use Rattle.propagate.specs.Propagation.{LeavesNone}
 use Rattle.propagate.proofs.Fits.{never-none, same-array}
 use Rattle.store.specs.Blank.{blank}
 use Rattle.store.specs.declared.blank.BlankStore.{BlankStore}
 use Rattle.trials.specs.Picks.{Picked, Single}
-use Rattle.trials.specs.Trials.{Verdict, refuted, found, stopped, Over, Narrows, cutTo, cutFrom, Trial, spent, emptied, settled, seen, left, right, both}
+use Rattle.trials.specs.Trials.{Verdict, refuted, found, Over, Narrows, cutTo, cutFrom, Trial, spent, emptied, settled, seen, left, right, both}
+use Rattle.trials.specs.Laws.{Plain-has-one-result}
 use Rattle.trials.proofs.OnePick.{one-option, one-pick, none-to-pick, one-single}
 
 -- the trial of an array ends with this verdict, after so many trials in all
@@ -42,7 +40,7 @@ tree (left z b t o) = let r = tree t in (r .0 + 1, omega (arith, r .1), t-left (
 tree (right z b t u o) = let r = tree t in let q = tree u in (r .0 + q .0 + 1, omega (arith, r .1, q .1), t-right (b .narrows) (b .picked) (r .2) (q .2))
 tree (both z b t u h) = let r = tree t in let q = tree u in (r .0 + q .0 + 1, omega (arith, r .1, q .1), t-right (b .narrows) (b .picked) (r .2) (q .2))
 
--- ---- one tree
+-- ---- which trials exclude which
 
 pub not-over : {v : Verdict} → Over v → refuted ≡ v → ⊥
 not-over o e = subst Over (sym e) o
@@ -70,6 +68,35 @@ module _ (c : Contents) (array : List ℕ) where
       one-right = let moved = subst (λ n. Picked c n x v) one-next s in
           ap₂ (cutFrom other) (one-option c other y x w v t moved) (one-pick c other y x w v t moved) ∙ ap (λ n. cutFrom n x v) (sym one-next)
 
+-- ---- the tree of a trial that branches
+
+pub record LeftOf (c : Contents) (next : List ℕ) (x v : ℕ) (w : Verdict) (k : ℕ) : Type 0 where
+  pub count : ℕ
+  pub is : k ≡ count + 1
+  pub first : Tree c (cutTo next x v) w count
+  pub over : Over w
+
+pub record RightOf (c : Contents) (next : List ℕ) (x v : ℕ) (w : Verdict) (k : ℕ) : Type 0 where
+  pub count : ℕ
+  pub more : ℕ
+  pub is : k ≡ count + more + 1
+  pub first : Tree c (cutTo next x v) refuted count
+  pub second : Tree c (cutFrom next x v) w more
+
+pub branched : {c : Contents} {array : List ℕ} {w : Verdict} {k : ℕ} → Tree c array w k → {next : List ℕ} {x v : ℕ} → Narrows c array next → Picked c next x v → LeftOf c next x v w k ⊎ RightOf c next x v w k
+branched {c} {array} (t-emptied e) p q = absurd (not-emptied c array e p)
+branched {c} {array} (t-settled p′ s) p q = absurd (not-settled c array p′ p s q)
+branched {c} {array} {w} (t-left {k = k} p′ q′ t o) p q = inl record { count = k; is = refl; first = subst (λ a. Tree c a w k) (one-left c array p p′ q q′) t; over = o }
+branched {c} {array} {w} (t-right {k = k} {j = j} p′ q′ t u) p q = inr record {
+  count = k;
+  more = j;
+  is = refl;
+  first = subst (λ a. Tree c a refuted k) (one-left c array p p′ q q′) t;
+  second = subst (λ a. Tree c a w j) (one-right c array p p′ q q′) u;
+}
+
+-- ---- one tree
+
 pub one-tree : {c : Contents} {array : List ℕ} {v : Verdict} {k : ℕ} → Tree c array v k → (w : Verdict) (j : ℕ) → Tree c array w j → (v ≡ w) × (k ≡ j)
 one-tree (t-emptied e) w j (t-emptied f) = (refl, refl)
 one-tree {c} {array} (t-emptied e) w j (t-settled p s) = absurd (not-emptied c array e p)
@@ -79,23 +106,20 @@ one-tree {c} {array} (t-settled p s) w j (t-emptied e) = absurd (not-emptied c a
 one-tree {c} {array} (t-settled p s) w j (t-settled p′ s′) = (ap found (settled-once c array p p′ s s′), refl)
 one-tree {c} {array} (t-settled p s) w j (t-left p′ q t o) = absurd (not-settled c array p p′ s q)
 one-tree {c} {array} (t-settled p s) w j (t-right p′ q t u) = absurd (not-settled c array p p′ s q)
-one-tree {c} {array} (t-left p q t o) w j (t-emptied e) = absurd (not-emptied c array e p)
-one-tree {c} {array} (t-left p q t o) w j (t-settled p′ s) = absurd (not-settled c array p′ p s q)
-one-tree {c} {array} (t-left p q t o) w j (t-left {k = k} p′ q′ t′ o′) =
-    let i = one-tree t w k (subst (λ a. Tree c a w k) (one-left c array p p′ q q′) t′) in (i .0, ap (λ n. n + 1) (i .1))
-one-tree {c} {array} (t-left p q t o) w j (t-right {k = k} p′ q′ t′ u′) =
-    absurd (not-over o (sym (one-tree t refuted k (subst (λ a. Tree c a refuted k) (one-left c array p p′ q q′) t′) .0)))
-one-tree {c} {array} (t-right p q t u) w j (t-emptied e) = absurd (not-emptied c array e p)
-one-tree {c} {array} (t-right p q t u) w j (t-settled p′ s) = absurd (not-settled c array p′ p s q)
-one-tree {c} {array} (t-right p q t u) w j (t-left {k = k} p′ q′ t′ o′) =
-    absurd (not-over o′ (one-tree t w k (subst (λ a. Tree c a w k) (one-left c array p p′ q q′) t′) .0))
-one-tree {c} {array} (t-right p q t u) w j (t-right {k = k} {j = l} p′ q′ t′ u′) =
-    let i = one-tree t refuted k (subst (λ a. Tree c a refuted k) (one-left c array p p′ q q′) t′) in
-    let h = one-tree u w l (subst (λ a. Tree c a w l) (one-right c array p p′ q q′) u′) in
-    (h .0, omega (arith, i .1, h .1))
+one-tree (t-left p q t o) w j other = elim (branched other p q) [
+  | inl l ↦ let i = one-tree t w (l .count) (l .first) in (i .0, omega (arith, i .1, l .is))
+  | inr l ↦ absurd (not-over o (sym (one-tree t refuted (l .count) (l .first) .0)))
+]
+one-tree (t-right p q t u) w j other = elim (branched other p q) [
+  | inl l ↦ absurd (not-over (l .over) (one-tree t w (l .count) (l .first) .0))
+  | inr l ↦
+      let i = one-tree t refuted (l .count) (l .first) in
+      let h = one-tree u w (l .more) (l .second) in
+      (h .0, omega (arith, i .1, l .is, h .1))
+]
 
-pub one-result : {c : Contents} {array : List ℕ} {s t s′ t′ : BlankStore} {v w : Verdict} {n k : ℕ} → Trial c BlankStore blank None array s 0 v t n → Trial c BlankStore blank None array s′ 0 w t′ k → (v ≡ w) × (n ≡ k)
-one-result {w = w} p q =
+pub one-result : Plain-has-one-result
+one-result c array v w n k p q =
     let r = tree p in
     let o = tree q in
     let e = one-tree (r .2) w (o .0) (o .2) in

@@ -1,22 +1,21 @@
 -- A store that holds dead boxes only changes no answer and adds no trial.
-use mathlib.Core.Path.{_≡_, refl, sym, ap, subst, _∙_}
+use mathlib.Core.Path.{_≡_, refl, sym, subst}
 use mathlib.Core.List.{List}
-use mathlib.Core.Logic.{_⊎_, inl, inr}
+use mathlib.Core.Logic.{inl, inr}
 use Prim.Native.Nat.{ℕ, _+_, _<_, _≤_}
 use native.Mathlib.Omega.{arith}
-use lib.ListN.{length, getD}
+use lib.ListN.{length}
 use Rattle.std.specs.declared.option.Option.{Option}
 use Rattle.std.specs.declared.option.Option.the-variants.{Some, None}
 use Rattle.book.specs.Contents.{Contents, Valid}
 use Rattle.boxes.specs.declared.ValueBox.{ValueBox}
-use Rattle.reduce.specs.Laws.{NonEmpty, HasFit}
+use Rattle.reduce.specs.Laws.{HasFit}
 use Rattle.reduce.proofs.Changes.{dead-box, inside-meets}
-use Rattle.store.specs.Meaning.{Meaning, Looked, Told, HoldsOnly}
+use Rattle.store.specs.Meaning.{Meaning, HoldsOnly}
 use Rattle.store.proofs.Steps.{only-looked, only-told}
-use Rattle.trials.specs.Picks.{Picked, Single}
-use Rattle.trials.specs.Trials.{Verdict, refuted, found, stopped, Over, Spent, Narrows, Boxed, Branches, cutTo, cutFrom, Trial, spent, emptied, settled, seen, left, right, both}
-use Rattle.trials.specs.Laws.{Right, Dead, Agrees, Memory-loses-no-fit}
-use Rattle.trials.proofs.PlainTrees.{Tree, t-emptied, t-settled, t-left, t-right, some-trial, tree, one-tree, not-over, not-emptied, not-settled, one-left, one-right}
+use Rattle.trials.specs.Trials.{Verdict, refuted, found, stopped, Spent, Narrows, Boxed, Trial, spent, emptied, settled, seen, left, right, both}
+use Rattle.trials.specs.Laws.{Right, Dead, Memory-loses-no-fit}
+use Rattle.trials.proofs.PlainTrees.{Tree, t-emptied, t-settled, some-trial, tree, one-tree, branched, not-over}
 use Rattle.trials.proofs.RightAnswers.{right-answer, narrowed-within, within-narrowed, long-left, long-right}
 
 -- ---- verdicts
@@ -35,33 +34,6 @@ refuted-without : (c : Contents) (array : List ℕ) (v : Verdict) → Right c ar
 refuted-without c array refuted r none = refl
 refuted-without c array (found values) r none = absurd (none (values, r .0, r .1))
 refuted-without c array stopped r none = absurd r
-
--- ---- the tree of a trial that branches
-
-pub record LeftOf (c : Contents) (next : List ℕ) (x v : ℕ) (w : Verdict) (k : ℕ) : Type 0 where
-  pub count : ℕ
-  pub is : k ≡ count + 1
-  pub first : Tree c (cutTo next x v) w count
-  pub over : Over w
-
-pub record RightOf (c : Contents) (next : List ℕ) (x v : ℕ) (w : Verdict) (k : ℕ) : Type 0 where
-  pub count : ℕ
-  pub more : ℕ
-  pub is : k ≡ count + more + 1
-  pub first : Tree c (cutTo next x v) refuted count
-  pub second : Tree c (cutFrom next x v) w more
-
-branched : {c : Contents} {array : List ℕ} {w : Verdict} {k : ℕ} → Tree c array w k → {next : List ℕ} {x v : ℕ} → Narrows c array next → Picked c next x v → LeftOf c next x v w k ⊎ RightOf c next x v w k
-branched {c} {array} (t-emptied e) p q = absurd (not-emptied c array e p)
-branched {c} {array} (t-settled p′ s) p q = absurd (not-settled c array p′ p s q)
-branched {c} {array} {w} (t-left {k = k} p′ q′ t o) p q = inl record { count = k; is = refl; first = subst (λ a. Tree c a w k) (one-left c array p p′ q q′) t; over = o }
-branched {c} {array} {w} (t-right {k = k} {j = j} p′ q′ t u) p q = inr record {
-  count = k;
-  more = j;
-  is = refl;
-  first = subst (λ a. Tree c a refuted k) (one-left c array p p′ q q′) t;
-  second = subst (λ a. Tree c a w j) (one-right c array p p′ q q′) u;
-}
 
 -- ---- agreement
 

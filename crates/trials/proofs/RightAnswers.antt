@@ -1,10 +1,10 @@
 -- What the plain ask finds is a fit, and where it finds none there is none.
-use mathlib.Core.Path.{_≡_, refl, sym, ap, ap₂, subst, _∙_}
+use mathlib.Core.Path.{_≡_, refl, sym, ap₂, subst, _∙_}
 use mathlib.Core.List.{List, [], _∷_}
-use mathlib.Core.Logic.{_⊎_, inl, inr}
-use Prim.Native.Nat.{ℕ, suc, _+_, _-_, _%_, _^_, _<_, _≤_}
+use mathlib.Core.Logic.{inl, inr}
+use Prim.Native.Nat.{ℕ, suc, _-_, _^_, _<_}
 use native.Mathlib.Omega.{arith}
-use lib.ListN.{length, getD, set}
+use lib.ListN.{length, getD}
 use Rattle.std.specs.shelf.Lists.{All}
 use Rattle.std.proofs.shelf.Lists.{length-set}
 use Rattle.book.specs.Contents.{Table, Contents, Listed, onScope, Fit, ValidTable, Valid}
@@ -14,14 +14,13 @@ use Rattle.propagate.specs.Sets.{Sets, setsOf}
 use Rattle.propagate.specs.Support.{Live, Closed}
 use Rattle.propagate.specs.Propagation.{LeavesNone}
 use Rattle.propagate.specs.Laws.{Within}
-use Rattle.propagate.specs.declared.outcome.Outcome.{Outcome}
 use Rattle.propagate.specs.declared.outcome.Outcome.the-variants.{Narrowed, Emptied}
 use Rattle.propagate.proofs.Fits.{loses-no-fit}
 use Rattle.reduce.specs.Laws.{HasFit}
 use Rattle.trials.specs.Picks.{Picked, Single}
 use Rattle.trials.specs.Trials.{Verdict, refuted, found, stopped, Over, Narrows, cutTo, cutFrom}
-use Rattle.trials.specs.Laws.{Right}
-use Rattle.trials.proofs.PlainTrees.{Tree, t-emptied, t-settled, t-left, t-right}
+use Rattle.trials.specs.Laws.{Right, Plain-is-right, Plain-finds-if-any}
+use Rattle.trials.proofs.PlainTrees.{Tree, t-emptied, t-settled, t-left, t-right, tree}
 use Rattle.trials.proofs.Halves.{left-within, right-within, within-half}
 
 -- ---- propagation and the fits inside
@@ -108,3 +107,18 @@ right-answer {c} {array} ok long (t-left {next = next} {x = x} {v = v} {w = w} p
     left-right c ok array next p long x v q w o (right-answer ok (long-left c ok array next p long x v q) t)
 right-answer {c} {array} ok long (t-right {next = next} {x = x} {v = v} {w = w} p q t u) =
     right-right c ok array next p long x v q w (right-answer ok (long-left c ok array next p long x v q) t) (right-answer ok (long-right c ok array next p long x v q) u)
+
+-- ---- the laws
+
+pub plain-is-right : Plain-is-right
+plain-is-right c ok array long v n plain = right-answer ok long (tree plain .2)
+
+found-if : (c : Contents) (array : List ℕ) (v : Verdict) → Right c array v → HasFit c array → (values : List ℕ) × (v ≡ found values)
+found-if c array refuted r fit = absurd (r fit)
+found-if c array (found values) r fit = (values, refl)
+found-if c array stopped r fit = absurd r
+
+pub plain-finds-if-any : Plain-finds-if-any
+plain-finds-if-any c ok array long v n plain =
+    let r = plain-is-right c ok array long v n plain in
+    (found-if c array v r, λ (values, e). let h = subst (Right c array) e r in (values, h .0, h .1))

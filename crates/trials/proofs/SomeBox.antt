@@ -1,6 +1,6 @@
 -- Sets have a box.
-use mathlib.Core.Path.{_≡_, refl, sym, ap, subst, _∙_}
-use mathlib.Core.List.{List, []}
+use mathlib.Core.Path.{_≡_, refl}
+use mathlib.Core.List.{List}
 use mathlib.Core.Logic.{_⊎_, inl, inr}
 use Prim.Native.Nat.{ℕ, _/_, _%_, _^_, _<_, _≤_}
 use native.Mathlib.Nat.{mod-lt, lt-of-lt-of-le}
@@ -18,7 +18,7 @@ use Rattle.propagate.specs.Sets.{setsOf}
 use Rattle.propagate.specs.Support.{Mentions, isLive}
 use Rattle.propagate.proofs.Books.{size-most}
 use Rattle.reduce.specs.Universal.{Universal, Free, ways}
-use Rattle.reduce.specs.Boxes.{Whole, LeftOut, BoxOf}
+use Rattle.reduce.specs.Boxes.{LeftOut}
 use Rattle.reduce.proofs.Combinations.{universal-if, count-if}
 use Rattle.trials.specs.Trials.{Boxed}
 use Rattle.trials.proofs.Choosing.{all-or-some, chosen}

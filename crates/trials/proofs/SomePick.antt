@@ -1,15 +1,15 @@
 -- Sets that are not empty have a pick, or one value for each option.
-use mathlib.Core.Path.{_≡_, refl, sym, ap, subst, _∙_}
+use mathlib.Core.Path.{_≡_, subst}
 use mathlib.Core.List.{List}
 use mathlib.Core.Logic.{_⊎_, inl, inr}
-use Prim.Native.Nat.{ℕ, zero, suc, _+_, _^_, _<_, _≤_}
+use Prim.Native.Nat.{ℕ, zero, suc, _^_, _<_, _≤_}
 use native.Mathlib.Omega.{arith}
 use lib.ListN.{length, getD}
-use lib.Count.{ones, trailingZeros}
+use lib.Count.{trailingZeros}
 use Rattle.std.proofs.shelf.Tests.{cases-lt}
 use Rattle.book.specs.Contents.{Contents}
 use Rattle.values.specs.Members.{Lowest}
-use Rattle.values.proofs.Digits.{lt-pow, trailing-member, trailing-lowest, some-from-ones}
+use Rattle.values.proofs.Digits.{lt-pow, trailing-member, trailing-lowest}
 use Rattle.trials.specs.Picks.{sizeAt, Picked, Single}
 use Rattle.trials.proofs.OneValue.{some-ones, the-value}
 use Rattle.trials.proofs.Choosing.{chosen}

@@ -2,7 +2,7 @@
 use mathlib.Core.Path.{_≡_, refl, sym, ap, subst, _∙_}
 use mathlib.Core.List.{List}
 use mathlib.Core.Logic.{_⊎_, inl, inr}
-use Prim.Native.Nat.{ℕ, zero, suc, _+_, _-_, _%_, _^_, _<_, _≤_}
+use Prim.Native.Nat.{ℕ, zero, suc, _-_, _^_, _<_, _≤_}
 use native.Mathlib.Nat.{mod-le}
 use native.Mathlib.Omega.{arith}
 use lib.ListN.{length, getD, set}
@@ -12,7 +12,7 @@ use Rattle.std.proofs.shelf.Elements.{all-getD}
 use Rattle.std.proofs.shelf.Lists.{getD-set-same, getD-set-other, getD-past, length-set}
 use Rattle.std.proofs.shelf.Sums.{sumBy-set}
 use Rattle.std.proofs.shelf.Tests.{cases-eq, cases-lt}
-use Rattle.book.specs.Contents.{Table, Contents, ValidTable, Valid}
+use Rattle.book.specs.Contents.{Contents, ValidTable, Valid}
 use Rattle.values.specs.Members.{In}
 use Rattle.values.proofs.Digits.{in-ge}
 use Rattle.propagate.specs.Sets.{Sets, Inside, placed, setsOf}
@@ -40,9 +40,6 @@ module _ (c : Contents) (ok : Valid c) (before : List ℕ) (long : length before
   none-yet = record { smaller = λ x v h. h; keeps = λ other h k. h; rest = λ x l. refl; long = refl; less = omega arith }
 
   module _ (now : List ℕ) (old : Shrunk c before now) (i : ℕ) (in-book : i < length (c .tables)) (j v : ℕ) (lack : Lacks (getD (c .tables) i blank) (placed now) j v) where
-    t : Table
-    t = getD (c .tables) i blank
-
     abbrev x : ℕ
     x = getD (getD (c .tables) i blank .scope) j 0
 

@@ -1,15 +1,13 @@
 -- Whether every value has support.
-use mathlib.Core.Path.{_≡_, refl, sym, ap, subst, _∙_}
-use mathlib.Core.Bool.{Bool, true, false}
+use mathlib.Core.Path.{_≡_, refl, sym, subst, _∙_}
 use mathlib.Core.List.{List, []}
 use mathlib.Core.Logic.{_⊎_, inl, inr}
-use Prim.Native.Nat.{ℕ, _/_, _%_, _^_, _<_, _≤_}
+use Prim.Native.Nat.{ℕ, _/_, _%_, _^_, _<_}
 use native.Mathlib.Omega.{arith}
 use lib.ListN.{length, getD}
-use Rattle.std.specs.shelf.Lists.{All}
 use Rattle.std.proofs.shelf.Elements.{all-from-getD}
 use Rattle.std.proofs.shelf.Tests.{cases-eq, cases-bool, true≢false}
-use Rattle.book.specs.Contents.{Table, Contents}
+use Rattle.book.specs.Contents.{Table}
 use Rattle.values.specs.Members.{In}
 use Rattle.values.proofs.Digits.{in-ge, lt-pow}
 use Rattle.propagate.specs.Sets.{Sets}

@@ -31,6 +31,12 @@ Right c array stopped = ⊥
 abbrev pub Plain-is-right : Type 0
 Plain-is-right = (c : Contents) → Valid c → (array : List ℕ) → length array ≡ 24 → (v : Verdict) (n : ℕ) → Plain c array v n → Right c array v
 
+-- It finds a fit exactly where the book has one inside the sets.
+abbrev pub Plain-finds-if-any : Type 0
+Plain-finds-if-any =
+    (c : Contents) → Valid c → (array : List ℕ) → length array ≡ 24 → (v : Verdict) (n : ℕ) → Plain c array v n
+    → (HasFit c array → (values : List ℕ) × (v ≡ found values)) × (((values : List ℕ) × (v ≡ found values)) → HasFit c array)
+
 -- Nothing meets the box that is a fit of the book.
 abbrev pub Dead : Contents → ValueBox → Type 0
 Dead c b = (values : List ℕ) → Fit c values → Meets (b .sets) values → ⊥
@@ -51,3 +57,9 @@ abbrev pub Memory-loses-no-fit : (S : Type 0) → Meaning S → Type 0
 Memory-loses-no-fit S m =
     (c : Contents) → Valid c → (budget : Option ℕ) (array : List ℕ) → length array ≡ 24 → (s t : S) (v w : Verdict) (n k : ℕ)
     → HoldsOnly m (Dead c) s → Asks c S m budget array s v t n → Plain c array w k → Agrees c m budget v t n w k
+
+-- So its answer is right.
+abbrev pub Answers-are-right : (S : Type 0) → Meaning S → Type 0
+Answers-are-right S m =
+    (c : Contents) → Valid c → (budget : Option ℕ) (array : List ℕ) → length array ≡ 24 → (s t : S) (v : Verdict) (n : ℕ)
+    → HoldsOnly m (Dead c) s → Asks c S m budget array s v t n → (v ≡ stopped → ⊥) → Right c array v

@@ -2,4 +2,4 @@ use Rattle.trials.proofs.PlainTrees.{one-result}
 use Rattle.trials.proofs.laws.the_plain_ask_has_one_result.Needs as need
 
 pub returns : need.returns
-returns c = λ _ _ _ _ _ _ p q. one-result p q
+returns c = one-result
