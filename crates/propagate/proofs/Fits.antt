@@ -72,7 +72,7 @@ loses-no-fit c ok start end o p values fit within = keeps c ok start values fit 
 -- ---- one way only
 
 module _ (c : Contents) (start a : List ℕ) (p : Propagated c start a) where
-  never-none : LeavesNone c (setsOf c start) → ⊥
+  pub never-none : LeavesNone c (setsOf c start) → ⊥
   never-none (x, l, none) =
       let e = no-values (setsOf c a x) (none (setsOf c a) (p .largest .inside) (p .largest .closed)) in
       omega (arith, p .some x l, p .exact x l, e)
@@ -87,7 +87,7 @@ module _ (c : Contents) (start a : List ℕ) (p : Propagated c start a) where
       | inr g ↦ p .rest x g ∙ sym (q .rest x g)
     ]
 
-    same-array : a ≡ b
+    pub same-array : a ≡ b
     same-array = ext-getD 0 a b long (λ x l. same-at x)
 
 pub ends-one-way : Ends-one-way

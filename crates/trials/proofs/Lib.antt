@@ -1,0 +1,12 @@
+pub mod OneValue
+pub mod OnePick
+pub mod PlainTrees
+pub mod Halves
+pub mod RightAnswers
+pub mod Remembering
+pub mod Choosing
+pub mod SomePick
+pub mod SomeSupport
+pub mod SomePropagation
+pub mod SomeBox
+pub mod PlainEnds

@@ -153,7 +153,7 @@ out-less s v h = omega (arith, xor-add-and s (2 ^ v), and-le-r s (2 ^ v), in-ge 
 
 -- ---- the values below a size
 
-lt-pow : (n : ℕ) → n < 2 ^ n
+pub lt-pow : (n : ℕ) → n < 2 ^ n
 lt-pow zero = omega arith
 lt-pow (suc n) = omega (arith, lt-pow n, pow-suc 2 n)
 
