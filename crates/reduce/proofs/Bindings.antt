@@ -58,8 +58,8 @@ marks before scope m now g l all = record {
 
 -- ---- one more table
 
-pub binds-none : (sets : Sets) → Binds sets [] 0
-binds-none sets = record { free = λ x h. tt; tied = λ x h f. in-zero x h }
+pub binds-none : (sets : Sets) (bound : ℕ) → bound ≡ 0 → Binds sets [] bound
+binds-none sets bound z = record { free = λ x h. tt; tied = λ x h f. in-zero x (subst (λ n. In n x) z h) }
 
 module _ (sets : Sets) (tables : List Table) (t : Table) (bound : ℕ) (old : Binds sets tables bound) where
   pub binds-universal : Universal sets t → Binds sets (tables ++ t ∷ []) bound

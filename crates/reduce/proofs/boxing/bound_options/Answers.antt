@@ -22,7 +22,7 @@ mark-bound-requires c κs j l =
     omega (arith, scope-known b (getD (c .tables-tables .result .now) (c .loop-table .table-index) blank) one _ (c .scope-of .ensures) j l, valid b .few)
 
 pub loop-table-holds : need.loop-table-holds
-loop-table-holds c = binds-none _
+loop-table-holds c = binds-none _ _ (omega arith)
 
 pub loop-table-again : need.loop-table-again
 loop-table-again c =
