@@ -68,6 +68,13 @@ module _ (sets : Sets) (tables : List Table) (t : Table) (bound : ℕ) (old : Bi
     tied = λ x h f. old .tied x h (all-parts (λ t. Mentions (t .scope) x → Universal sets t) tables t f .0);
   }
 
+  -- all its options are bound already
+  pub binds-known : (((x : ℕ) × Mentions (t .scope) x × (In bound x → ⊥)) → ⊥) → Binds sets (tables ++ t ∷ []) bound
+  binds-known none = record {
+    free = λ x h. all-push (λ t. Mentions (t .scope) x → Universal sets t) tables t (old .free x h) (λ m. absurd (none (x, m, h)));
+    tied = λ x h f. old .tied x h (all-parts (λ t. Mentions (t .scope) x → Universal sets t) tables t f .0);
+  }
+
   pub binds-marked : (Universal sets t → ⊥) → (marked : ℕ) → Marks bound (t .scope) marked → Binds sets (tables ++ t ∷ []) marked
   binds-marked not-u marked m = record {
     free = λ x h. all-push (λ t. Mentions (t .scope) x → Universal sets t) tables t (old .free x (λ k. h (m .all x (inl k)))) (λ k. absurd (h (m .all x (inr k))));

@@ -26,11 +26,12 @@ returns-then-all-rows c =
     let t = c .args .table .now in
     let small : (x : ℕ) → getD (c .args .sets .now) x 0 < 2 ^ 32 = λ x. omega (arith, c .fits-sets x) in
     let scope = c .scope-of-scope .result .now in
-    let rows = c .rows-of-rows .result .now in
-    (λ e. absurd (false≢true e),
-     λ u. absurd (never-universal 32 (placed (c .args .sets .now)) small (tableAt b t) (table-valid b t (c .pre) .apart)
-        (tableFrom scope rows) (table-at b t (c .pre) scope rows (c .scope-of-scope .ensures) (c .rows-of-rows .ensures))
-        (length rows) (c .combinations-all .result) (length-map rows (take (length scope))) (c .combinations-all .ensures) (omega arith) u))
+    let rows = c .rows-of-rows .result .now in (
+      λ e. absurd (false≢true e),
+      λ u. absurd (never-universal 32 (placed (c .args .sets .now)) small (tableAt b t) (table-valid b t (c .pre) .apart)
+          (tableFrom scope rows) (table-at b t (c .pre) scope rows (c .scope-of-scope .ensures) (c .rows-of-rows .ensures))
+          (length rows) (c .combinations-all .result) (length-map rows (take (length scope))) (c .combinations-all .ensures) (omega arith) u),
+    )
 
 pub returns : need.returns
 returns c =
