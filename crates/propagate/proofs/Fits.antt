@@ -1,5 +1,5 @@
 -- Propagation and the fits of a book.
-use mathlib.Core.Path.{_≡_, refl, sym, ap, subst, _∙_}
+use mathlib.Core.Path.{_≡_, refl, sym, ap, ap₂, subst, _∙_}
 use mathlib.Core.List.{List, [], _∷_, map}
 use mathlib.Core.Logic.{_⊎_, inl, inr}
 use Prim.Native.Nat.{ℕ, suc, _^_, _<_, _≤_}
@@ -13,10 +13,10 @@ use Rattle.values.specs.Members.{In}
 use Rattle.propagate.specs.Sets.{Sets, Inside, setsOf}
 use Rattle.propagate.specs.Support.{Live, Upheld, Closed}
 use Rattle.propagate.specs.Propagation.{Largest, Propagated, LeavesNone, Ends}
-use Rattle.propagate.specs.Laws.{Within, Loses-no-fit, Ends-one-way, Emptied-where-empty}
+use Rattle.propagate.specs.Laws.{Within, Loses-no-fit, Ends-one-way, Emptied-where-empty, Single-sets-fit}
 use Rattle.propagate.specs.declared.outcome.Outcome.{Outcome}
 use Rattle.propagate.specs.declared.outcome.Outcome.the-variants.{Narrowed, Emptied}
-use Rattle.values.proofs.Digits.{in-one, in-one-only, in-zero, no-values, same-from-values}
+use Rattle.values.proofs.Digits.{in-one, in-one-only, in-zero, in-mod, no-values, same-from-values}
 use Rattle.propagate.proofs.Ends.{none-past}
 
 -- the sets of one value each
@@ -101,3 +101,30 @@ emptied-where-empty c start end p = (
   λ (x, l, none). (x, l, no-values (end x) (none end (p .inside) (p .closed))),
   λ (x, l, e). (x, l, λ other h k v m. in-zero v (subst (λ s. In s v) e (p .largest other h k x v m))),
 )
+
+-- ---- sets of one value each
+
+-- the only live row
+single-row : (sets : Sets) (values scope row : List ℕ) → ((j : ℕ) → j < length scope → sets (getD scope j 0) ≡ 2 ^ getD values (getD scope j 0) 0) → Live sets scope row → row ≡ onScope values scope
+single-row sets values [] [] one h = refl
+single-row sets values [] (v ∷ row) one h = absurd h
+single-row sets values (x ∷ scope) [] one h = absurd h
+single-row sets values (x ∷ scope) (v ∷ row) one h =
+    ap₂ (λ w ws. w ∷ ws) (in-one-only (getD values x 0) v (subst (λ s. In s v) (one 0 (omega arith)) (h .0)))
+    (single-row sets values scope row (λ j l. one (suc j) (omega arith)) (h .1))
+
+single-listed : (sizes : List ℕ) (sets : Sets) (values : List ℕ) → ((x : ℕ) → x < length sizes → sets x ≡ 2 ^ getD values x 0) → (tables : List Table) → All (ValidTable sizes) tables → Closed tables sets
+    → All (λ t. Listed (t .rows) (onScope values (t .scope))) tables
+single-listed sizes sets values one [] ok up = tt
+single-listed sizes sets values one (t ∷ ts) ok up =
+    let on-scope = λ (j : ℕ) (l : j < length (t .scope)). one (getD (t .scope) j 0) (ok .0 .known j l) in
+    let first = ok .0 .some in
+    let s = up .0 0 (getD values (getD (t .scope) 0 0) 0) first (subst (λ n. In n (getD values (getD (t .scope) 0 0) 0)) (sym (on-scope 0 first)) (in-one _)) in
+    (subst (Listed (t .rows)) (single-row sets values (t .scope) (s .0) on-scope (s .2)) (s .1), single-listed sizes sets values one ts (ok .1) (up .1))
+
+pub single-sets-fit : Single-sets-fit
+single-sets-fit c ok array values long one closed = record {
+  each = long;
+  within = λ x l. in-mod (getD array x 0) (getD (c .sizes) x 0) (getD values x 0) (subst (λ n. In n (getD values x 0)) (sym (one x l)) (in-one _)) .1;
+  listed = single-listed (c .sizes) (setsOf c array) values one (c .tables) (ok .tables) closed;
+}

@@ -1,11 +1,12 @@
 -- What propagation means for the fits of a book.
 use mathlib.Core.Path.{_≡_}
 use mathlib.Core.List.{List}
-use Prim.Native.Nat.{ℕ, _<_}
+use Prim.Native.Nat.{ℕ, _^_, _<_}
 use lib.ListN.{length, getD}
 use Rattle.book.specs.Contents.{Contents, Fit, Valid}
 use Rattle.values.specs.Members.{In}
 use Rattle.propagate.specs.Sets.{Sets, setsOf}
+use Rattle.propagate.specs.Support.{Closed}
 use Rattle.propagate.specs.Propagation.{Largest, LeavesNone, Ends}
 use Rattle.propagate.specs.declared.outcome.Outcome.{Outcome}
 use Rattle.propagate.specs.declared.outcome.Outcome.the-variants.{Narrowed}
@@ -30,3 +31,10 @@ abbrev pub Emptied-where-empty : Type 0
 Emptied-where-empty =
     (c : Contents) (start end : Sets) → Largest c start end
     → (LeavesNone c start → (x : ℕ) × (x < length (c .sizes)) × (end x ≡ 0)) × (((x : ℕ) × (x < length (c .sizes)) × (end x ≡ 0)) → LeavesNone c start)
+
+-- Where every value has support and each option has one value, these values are a fit.
+abbrev pub Single-sets-fit : Type 0
+Single-sets-fit =
+    (c : Contents) → Valid c → (array values : List ℕ) → length values ≡ length (c .sizes)
+    → ((x : ℕ) → x < length (c .sizes) → setsOf c array x ≡ 2 ^ getD values x 0)
+    → Closed (c .tables) (setsOf c array) → Fit c values

@@ -19,7 +19,7 @@ pub struct Supported {
 }
 
 /// Whether each value of the row is in its option's set.
-pub fn live(row: &Row, scope: &[u8], sets: &[u32; 24]) -> bool
+fn live(row: &Row, scope: &[u8], sets: &[u32; 24]) -> bool
     requires few { ⌜ length (now scope) ≤ 4 ⌝ }
     requires known { ⌜ ((j : ℕ) → j < length (now scope) → getD (now scope) j 0 < 24) ⌝ }
     requires small { ⌜ ((j : ℕ) → j < length (now scope) → getD (now row) j 0 < 32) ⌝ }

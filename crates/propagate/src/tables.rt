@@ -19,7 +19,7 @@ use book::TableIndex;
 use values::has;
 
 /// Takes the values without support in the table out of the sets of its scope, and gives the options that lost some.
-pub fn revise(book: &Book, table: &TableIndex, sets: &mut [u32; 24]) -> u32
+fn revise(book: &Book, table: &TableIndex, sets: &mut [u32; 24]) -> u32
     requires { ⌜ Has (tablesAt (now book)) (now table) ⌝ }
     ensures { λ r. ⌜ Revised (length (contents (now (book .entry)) .sizes)) (tableOf (rowsAt (now (book .entry))) (now (table .entry))) (now (sets .entry)) (now (sets .exit)) r ⌝ }
 {
@@ -66,7 +66,7 @@ fn starves(scope: &[u8], sets: &[u32; 24]) -> bool
 
 /// Revises by each table with a pending option, or one that changed on the way, and gives the options that changed.
 /// It leaves off as soon as an option has no value.
-pub fn round(book: &Book, sets: &mut [u32; 24], pending: u32) -> u32
+pub(crate) fn round(book: &Book, sets: &mut [u32; 24], pending: u32) -> u32
     requires { ⌜ Settled (contents (now book) .tables) (placed (now sets)) pending ⌝ }
     ensures { λ r. ⌜ Rounded (contents (now (book .entry))) (now (sets .entry)) (now (sets .exit)) r ⌝ }
 {

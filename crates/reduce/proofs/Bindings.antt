@@ -58,13 +58,20 @@ marks before scope m now g l all = record {
 
 -- ---- one more table
 
-pub binds-none : (sets : Sets) → Binds sets [] 0
-binds-none sets = record { free = λ x h. tt; tied = λ x h f. in-zero x h }
+pub binds-none : (sets : Sets) (bound : ℕ) → bound ≡ 0 → Binds sets [] bound
+binds-none sets bound z = record { free = λ x h. tt; tied = λ x h f. in-zero x (subst (λ n. In n x) z h) }
 
 module _ (sets : Sets) (tables : List Table) (t : Table) (bound : ℕ) (old : Binds sets tables bound) where
   pub binds-universal : Universal sets t → Binds sets (tables ++ t ∷ []) bound
   binds-universal u = record {
     free = λ x h. all-push (λ t. Mentions (t .scope) x → Universal sets t) tables t (old .free x h) (λ _. u);
+    tied = λ x h f. old .tied x h (all-parts (λ t. Mentions (t .scope) x → Universal sets t) tables t f .0);
+  }
+
+  -- all its options are bound already
+  pub binds-known : (((x : ℕ) × Mentions (t .scope) x × (In bound x → ⊥)) → ⊥) → Binds sets (tables ++ t ∷ []) bound
+  binds-known none = record {
+    free = λ x h. all-push (λ t. Mentions (t .scope) x → Universal sets t) tables t (old .free x h) (λ m. absurd (none (x, m, h)));
     tied = λ x h f. old .tied x h (all-parts (λ t. Mentions (t .scope) x → Universal sets t) tables t f .0);
   }
 

@@ -21,6 +21,7 @@ use Rattle.book.specs.Contents.{Table, Contents, Listed, onScope, Fit, ValidTab
 use Rattle.values.specs.Members.{In}
 use Rattle.propagate.specs.Sets.{Sets, setsOf}
 use Rattle.propagate.specs.Support.{isIn}
+use Rattle.propagate.specs.Propagation.{Propagated}
 use Rattle.propagate.specs.Laws.{Within}
 use Rattle.values.proofs.Digits.{in-mod, trailing-member}
 use Rattle.propagate.proofs.Fits.{live-on}
@@ -160,3 +161,7 @@ one-box c array a b long p q = ext-getD 0 a b long (λ x _. elim (cases-lt x (le
   ]
   | inr g ↦ p .lacking x g ∙ sym (q .lacking x g)
 ])
+
+-- propagated sets are not empty
+pub propagated-non-empty : (c : Contents) (start end : List ℕ) → Propagated c start end → NonEmpty c end
+propagated-non-empty c start end p x l = omega (arith, p .some x l, p .exact x l)

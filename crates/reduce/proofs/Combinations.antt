@@ -10,7 +10,7 @@ use lib.Count.{ones}
 use Rattle.std.specs.Orderings.{Decides}
 use Rattle.std.specs.shelf.Lists.{All, joined, kept-by, countBy}
 use Rattle.std.proofs.shelf.Lists.{length-map}
-use Rattle.std.proofs.shelf.Sums.{length-kept-by}
+use Rattle.std.proofs.shelf.Sums.{length-kept-by, countBy-le-length}
 use Rattle.std.proofs.shelf.Ways.{decides-like}
 use Rattle.book.specs.Contents.{Table, Listed}
 use Rattle.values.specs.Members.{In}
@@ -130,3 +130,14 @@ module _ (k : ℕ) (sets : Sets) (small : (x : ℕ) → sets x < 2 ^ k) where
         let many-is = p ∙ ap (λ t. countBy (isLive sets (t .scope)) (t .rows)) e in
         let all-is = q ∙ ap (λ t. ways sets (t .scope)) e in
         decides-like r (λ h. universal-if (sym many-is ∙ h ∙ all-is)) (λ u. many-is ∙ count-if u ∙ sym all-is)
+
+    -- more combinations than rows
+    pub never-universal : (s : Table) → s ≡ t → (rows all : ℕ) → length (s .rows) ≡ rows → all ≡ ways sets (s .scope) → rows < all → Universal sets t → ⊥
+    never-universal s e rows all p q less u =
+        omega (
+          arith,
+          count-if u,
+          countBy-le-length (isLive sets (t .scope)) (t .rows),
+          ap (λ t. length (t .rows)) e,
+          ap (λ t. ways sets (t .scope)) e,
+        )

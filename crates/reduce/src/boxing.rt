@@ -6,6 +6,7 @@ ghost use Rattle.std.specs.Orderings.{Decides};
 ghost use Rattle.book.specs.Books.{contents};
 ghost use Rattle.values.specs.Members.{In};
 ghost use Rattle.propagate.specs.Sets.{placed};
+ghost use Rattle.propagate.specs.Support.{Mentions};
 ghost use Rattle.reduce.specs.Boxes.{BoxOf};
 ghost use Rattle.reduce.specs.Steps.{Marks, Binds, Records};
 use crate::tables::covers;
@@ -30,15 +31,30 @@ fn mark(options: u32, scope: &[u8]) -> u32
     marked
 }
 
+/// Whether the scope has an option that is not yet among these.
+fn adds(scope: &[u8], options: u32) -> bool
+    requires { ⌜ ((j : ℕ) → j < length (now scope) → getD (now scope) j 0 < 32) ⌝ }
+    ensures { λ r. ⌜ Decides r ((x : ℕ) × Mentions (now (scope .entry)) x × (In options x → ⊥)) ⌝ }
+{
+    for x in scope {
+        if !has(options, *x) {
+            return true;
+        }
+    }
+    false
+}
+
 /// The options that some table binds: one that has the option in its scope and is not universal.
+/// A table all of whose options are bound already is not looked at.
 fn bound_options(book: &Book, sets: &[u32; 24]) -> u32
     ensures { λ r. ⌜ Binds (placed (now (sets .entry))) (contents (now (book .entry)) .tables) r ⌝ }
 {
     let tables = book.tables();
     let mut bound = 0;
     for table in tables {
-        if !covers(book, table, sets) {
-            bound = mark(bound, scope_of(table));
+        let scope = scope_of(table);
+        if adds(scope, bound) && !covers(book, table, sets) {
+            bound = mark(bound, scope);
         }
     }
     bound

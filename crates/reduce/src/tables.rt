@@ -30,14 +30,20 @@ fn combinations(scope: &[u8], sets: &[u32; 24]) -> usize
     all
 }
 
-/// Whether every combination of values from the scope's sets is a row of the table. Its rows are distinct, so it is enough to count the live ones.
-pub fn covers(book: &Book, table: &TableIndex, sets: &[u32; 24]) -> bool
+/// Whether every combination of values from the scope's sets is a row of the table.
+/// Its rows are distinct, so it is enough to count the live ones, and more combinations than rows need no count.
+pub(crate) fn covers(book: &Book, table: &TableIndex, sets: &[u32; 24]) -> bool
     requires { ⌜ Has (tablesAt (now book)) (now table) ⌝ }
     ensures { λ r. ⌜ Decides r (Universal (placed (now (sets .entry))) (tableOf (rowsAt (now (book .entry))) (now (table .entry)))) ⌝ }
 {
     let scope = scope_of(table);
-    let found = support(rows_of(book, table), scope, sets);
-    found.live == combinations(scope, sets)
+    let rows = rows_of(book, table);
+    let all = combinations(scope, sets);
+    if all > rows.len() {
+        return false;
+    }
+    let found = support(rows, scope, sets);
+    found.live == all
 }
 
 /// Whether the book has a table of this number, and it is universal in the sets.
