@@ -29,7 +29,7 @@ use Rattle.book.proofs.Inversion.{ok-so, next-so, each-so}
 use Rattle.book.proofs.FileNames.{tail-is}
 use Rattle.book.proofs.Layouts.{tables-agree}
 
-cut-lengths : (xs ns : List ℕ) → sum ns ≤ length xs → map length (cut xs ns) ≡ ns
+pub cut-lengths : (xs ns : List ℕ) → sum ns ≤ length xs → map length (cut xs ns) ≡ ns
 cut-lengths xs [] h = refl
 cut-lengths xs (n ∷ ns) h =
     let total = sumBy-cons (λ x. x) n ns in

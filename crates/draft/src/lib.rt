@@ -1,0 +1,10 @@
+// Drafts of books, and writing books as files.
+ghost use Rattle.draft.specs.Trip.{There, Back};
+
+/// Reading and writing undo each other.
+pub fn trip_stands() -> u8
+    ensures there { λ _. ⌜ There ⌝ }
+    ensures back { λ _. ⌜ Back ⌝ }
+{
+    0
+}
