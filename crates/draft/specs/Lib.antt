@@ -1,3 +1,4 @@
 pub mod Entries
 pub mod Encoding
+pub mod Lengths
 pub mod Trip

@@ -1,0 +1,6 @@
+pub mod Spelling
+pub mod Said
+pub mod FileFields
+pub mod Layers
+pub mod Long
+pub mod Trips
