@@ -1,3 +1,4 @@
+pub mod Drafts
 pub mod Entries
 pub mod Encoding
 pub mod Lengths

@@ -1,6 +1,13 @@
 // Drafts of books, and writing books as files.
 ghost use Rattle.draft.specs.Trip.{There, Back};
 
+mod draft;
+mod source;
+
+pub use draft::Draft;
+pub use source::DraftSource;
+pub use source::Drafted;
+
 /// Reading and writing undo each other.
 pub fn trip_stands() -> u8
     ensures there { λ _. ⌜ There ⌝ }
