@@ -4,3 +4,4 @@ pub mod FileFields
 pub mod Layers
 pub mod Long
 pub mod Trips
+pub mod Dues

@@ -3,3 +3,4 @@ pub mod Entries
 pub mod Encoding
 pub mod Lengths
 pub mod Trip
+pub mod Writing

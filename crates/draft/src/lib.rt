@@ -2,7 +2,9 @@
 ghost use Rattle.draft.specs.Trip.{There, Back};
 
 mod draft;
+mod fields;
 mod source;
+mod strokes;
 
 pub use draft::Draft;
 pub use source::DraftSource;
