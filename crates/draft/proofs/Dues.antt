@@ -91,3 +91,9 @@ due-all out₀ pen₀ out pen all rest due none =
       on = omega (arith, due .on, ap length e);
       rest = due .same;
     }
+
+-- all that was left is written
+pub due-last : (out₀ : List ℕ) (pen₀ : Pen) (out : List ℕ) (pen : Pen) (all rest : List Entry) → Due out₀ pen₀ out pen all rest
+    → (out′ : List ℕ) (pen′ : Pen) → length out′ ≡ length out → Wrote out pen out′ pen′ rest → Wrote out₀ pen₀ out′ pen′ all
+due-last out₀ pen₀ out pen all rest due out′ pen′ long w =
+    due-all out₀ pen₀ out′ pen′ all [] (due-more out₀ pen₀ out pen all rest rest [] due (sym (append-nil rest)) out′ pen′ long w) refl

@@ -5,3 +5,5 @@ pub mod Layers
 pub mod Long
 pub mod Trips
 pub mod Dues
+pub mod TableDues
+pub mod Clamps

@@ -5,6 +5,7 @@ mod draft;
 mod fields;
 mod source;
 mod strokes;
+mod tables;
 
 pub use draft::Draft;
 pub use source::DraftSource;
