@@ -6,4 +6,7 @@ pub mod Long
 pub mod Trips
 pub mod Dues
 pub mod TableDues
+pub mod BookDues
 pub mod Clamps
+pub mod Fitting
+pub mod WriteDraft

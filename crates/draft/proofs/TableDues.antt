@@ -1,17 +1,19 @@
 -- A table is written heading first, then its rows.
-use mathlib.Core.Path.{_≡_, refl, _∙_}
+use mathlib.Core.Path.{_≡_, refl, ap, subst, _∙_}
 use mathlib.Core.List.{List, [], _∷_, _++_, map}
 use Prim.Native.Nat.{ℕ, _+_, _<_}
-use lib.ListN.{length, getD, drop}
-use Rattle.std.specs.shelf.Lists.{sum}
-use Rattle.std.proofs.shelf.Lists.{at-drop-more}
-use Rattle.std.proofs.shelf.Sums.{sumBy-cons}
+use lib.ListN.{length, getD, take, drop}
+use Rattle.std.specs.shelf.Lists.{All, sum, sumBy}
+use Rattle.std.proofs.shelf.Elements.{all-getD}
+use Rattle.std.proofs.shelf.Lists.{at-drop-more, getD-map, length-map}
+use Rattle.std.proofs.shelf.Sums.{sumBy-cons, sumBy-more}
 use Rattle.bits.specs.declared.pen.Pen.{Pen}
 use Rattle.book.specs.declared.field.Field.{Field}
 use Rattle.book.specs.declared.index.TableIndex.{TableIndex}
-use Rattle.book.specs.Contents.{Table}
+use Rattle.book.specs.Contents.{Table, ValidTable}
 use Rattle.book.specs.Layout.{tableOf}
 use Rattle.draft.specs.Entries.{numbered, rowFields, tableFields, tablesFields}
+use Rattle.draft.specs.Lengths.{tableBits}
 use Rattle.draft.specs.Writing.{Ready, Wrote}
 use Rattle.draft.proofs.Dues.{Due, due-none, due-ready, due-more, due-last}
 
@@ -62,3 +64,17 @@ module _ (rows : List (List ℕ)) (ts : List TableIndex) (i : ℕ) where
   pub counts-split : i < length ts
       → sum (map (λ t. length (t .rows)) (map (tableOf rows) (drop i ts))) ≡ length (tableOf rows (getD ts i blank) .rows) + sum (map (λ t. length (t .rows)) (map (tableOf rows) (drop (i + 1) ts)))
   counts-split h = at-drop-more (λ l. sum (map (λ t. length (t .rows)) (map (tableOf rows) l))) ts i blank h ∙ sumBy-cons (λ x. x) (length (tableOf rows (getD ts i blank) .rows)) (map (λ t. length (t .rows)) (map (tableOf rows) (drop (i + 1) ts)))
+
+-- the table at a place, and the bits of one table more
+module _ (rows : List (List ℕ)) (ts : List TableIndex) (i : ℕ) (h : i < length ts) where
+  at-place : getD (map (tableOf rows) ts) i (tableOf rows blank) ≡ tableOf rows (getD ts i blank)
+  at-place = getD-map (tableOf rows) ts i blank (tableOf rows blank) h
+
+  inside : i < length (map (tableOf rows) ts)
+  inside = simp length-map h
+
+  pub valid-at : (sizes : List ℕ) → All (ValidTable sizes) (map (tableOf rows) ts) → ValidTable sizes (tableOf rows (getD ts i blank))
+  valid-at sizes a = subst (ValidTable sizes) at-place (all-getD (ValidTable sizes) (map (tableOf rows) ts) i (tableOf rows blank) inside a)
+
+  pub bits-more : sumBy tableBits (take (i + 1) (map (tableOf rows) ts)) ≡ sumBy tableBits (take i (map (tableOf rows) ts)) + tableBits (tableOf rows (getD ts i blank))
+  bits-more = sumBy-more tableBits (map (tableOf rows) ts) i (tableOf rows blank) inside ∙ ap (λ t. sumBy tableBits (take i (map (tableOf rows) ts)) + tableBits t) at-place

@@ -38,6 +38,9 @@ all-front : (xs ys : List Entry) → All Fit (xs ++ ys) → All Fit xs
 all-front [] ys a = tt
 all-front (x ∷ xs) ys a = (a .0, all-front xs ys (a .1))
 
+pub valid-short : (c : Contents) → Valid c → All Fit (fields c) → fileLength c ≤ 32768
+valid-short c v fit = file-short c v (all-front (optionFields 0 (c .sizes) (map length (c .names))) _ (fit .1 .1 .1))
+
 pub length-encode : (c : Contents) → Valid c → length (encode c) ≡ fileLength c
 length-encode c v = length-bytes (length (spelt 0 (fields c)) / 8) (spelt 0 (fields c)) ∙ omega (arith, fields-long c v)
 
@@ -52,7 +55,7 @@ there s at c end e room fits =
     let bs = spelt 0 (fields c) in
     let is = bits-encode c v in
     let long : length file ≡ fileLength c = length-encode c v in
-    let short = file-short c v (all-front (optionFields 0 (c .sizes) (map length (c .names))) _ (w .fit .1 .1 .1)) in
+    let short = valid-short c v (w .fit) in
     let last = 0 + length bs in
     let over : 8 * length file - last ≡ 0 = omega (arith, fields-long c v) in
     let answers = answered-append (inFile file) (fields c) ended 0 last last (file-answers file (fields c) [] (w .fit) is) (last, ap (λ k. Ok (k, last)) over, refl) in

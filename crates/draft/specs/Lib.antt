@@ -4,3 +4,4 @@ pub mod Encoding
 pub mod Lengths
 pub mod Trip
 pub mod Writing
+pub mod Written

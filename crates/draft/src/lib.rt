@@ -3,13 +3,16 @@ ghost use Rattle.draft.specs.Trip.{There, Back};
 
 mod draft;
 mod fields;
+mod parts;
 mod source;
 mod strokes;
 mod tables;
+mod writer;
 
 pub use draft::Draft;
 pub use source::DraftSource;
 pub use source::Drafted;
+pub use writer::write;
 
 /// Reading and writing undo each other.
 pub fn trip_stands() -> u8

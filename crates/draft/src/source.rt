@@ -66,11 +66,9 @@ impl<'a> Drafted<'a> {
     {
         let draft = self.draft;
         match field {
-            Field::Whole
-            | Field::Kind(_)
-            | Field::Row(_, _)
-            | Field::Filling
-            | Field::End => Some(0),
+            Field::Whole | Field::Kind(_) | Field::Row(_, _) | Field::Filling | Field::End => Some(
+                0,
+            ),
             Field::Edition => Some(1),
             Field::Options => Some(draft.options),
             Field::Tables => Some(draft.tables),

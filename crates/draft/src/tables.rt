@@ -32,14 +32,7 @@ pub fn rows_of<'a>(table: &TableIndex, rows: &'a [Row]) -> &'a [Row]
 }
 
 /// Writes rows of a table, the first of which is the row `first` of the book.
-fn put_rows(
-    pen: &mut Pen,
-    out: &mut [u8],
-    table: usize,
-    first: usize,
-    arity: usize,
-    rows: &[Row],
-)
+fn put_rows(pen: &mut Pen, out: &mut [u8], table: usize, first: usize, arity: usize, rows: &[Row])
     requires small { ⌜ first + length (now rows) ≤ 8192 ⌝ }
     requires ready { ⌜ Ready (now pen) (now out) (rowFields table first (map (take arity) (now rows))) ⌝ }
     ensures { λ _. ⌜ Wrote (now (out .entry)) (now (pen .entry)) (now (out .exit)) (now (pen .exit)) (rowFields table first (map (take arity) (now (rows .entry)))) ⌝ }
