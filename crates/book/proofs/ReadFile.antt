@@ -114,5 +114,6 @@ module _ (file : List ℕ) (bytes : (i : ℕ) → getD file i 0 < 256) where
         tabled = h .tabled;
         spelled = h .spelled;
         inside = spelled .1;
+        bytes = bytes;
         is = ap (parse file) (ap length put ∙ length-append (take (i .rows) out) (drop (i .rows) old) ∙ omega (arith, length-take-le (i .rows) out (omega (arith, h .laid .few)), length-drop (i .rows) old)) ∙ is-c ∙ ap Ok same;
       }

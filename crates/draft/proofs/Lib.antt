@@ -10,3 +10,4 @@ pub mod BookDues
 pub mod Clamps
 pub mod Fitting
 pub mod WriteDraft
+pub mod Rewriting

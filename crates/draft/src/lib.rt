@@ -1,6 +1,7 @@
 // Drafts of books, and writing books as files.
 ghost use Rattle.draft.specs.Trip.{There, Back};
 
+mod again;
 mod draft;
 mod fields;
 mod parts;
@@ -9,6 +10,7 @@ mod strokes;
 mod tables;
 mod writer;
 
+pub use again::write_book;
 pub use draft::Draft;
 pub use source::DraftSource;
 pub use source::Drafted;
