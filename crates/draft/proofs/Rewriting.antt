@@ -15,9 +15,12 @@ use Rattle.std.proofs.shelf.Elements.{all-from-getD}
 use Rattle.std.proofs.shelf.Lists.{ext-getD}
 use Rattle.std.specs.declared.option.Option.{Option}
 use Rattle.std.specs.declared.option.Option.the-variants.{Some, None}
+use Rattle.std.specs.declared.result.Result.{Result}
+use Rattle.std.specs.declared.result.Result.the-variants.{Ok, Err}
 use Rattle.questions.specs.declared.question.Question.{Question}
 use Rattle.book.specs.declared.book.Book.{Book}
 use Rattle.book.specs.declared.field.Field.{Field}
+use Rattle.book.specs.declared.field.Fault.{Fault}
 use Rattle.book.specs.declared.index.TableIndex.{TableIndex}
 use Rattle.book.specs.Books.{contents, letters}
 use Rattle.book.specs.Contents.{Contents, Valid}
@@ -28,6 +31,8 @@ use Rattle.book.proofs.Inversion.{ask-so}
 use Rattle.book.proofs.Validity.{all-prop, valid-out}
 use Rattle.draft.specs.Entries.{Entry, fields}
 use Rattle.draft.specs.Encoding.{FitsIn, Fit, encode}
+use Rattle.draft.specs.Written.{counted, fitted, overwritten, Rewritten}
+use Rattle.draft.proofs.Fitting.{put-front}
 use Rattle.draft.proofs.Layers.{book-whole}
 use Rattle.draft.proofs.Trips.{parse-so, back}
 
@@ -81,3 +86,7 @@ module _ (b : Book) where
 
     pub told-bytes : encode told ≡ b .file .now
     told-bytes = ap encode told-is ∙ book-bytes
+
+pub rewrote : (file old out : List ℕ) (room : ℕ) (r : Result ℕ Fault) → r ≡ counted (fitted file room) → out ≡ overwritten (fitted file room) old → Rewritten file r out
+rewrote file old out room (Ok n) value change = put-front file old out room n value change
+rewrote file old out room (Err e) value change = tt

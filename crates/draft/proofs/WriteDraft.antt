@@ -1,19 +1,15 @@
 -- From a draft whose contents were read into lent memory to what is written for it.
 use mathlib.Core.Path.{_≡_, refl, sym, ap, subst, _∙_}
-use mathlib.Core.Bool.{true, false}
 use mathlib.Core.List.{List, [], _∷_, _++_, map}
 use Prim.Native.Nat.{ℕ, _+_, _-_, _*_, _<_, _≤_}
 use native.Mathlib.Omega.{arith}
 use native.Mathlib.Nat.{sub-zero}
-use lib.Dec.{leb}
 use lib.ListN.{length, take, drop}
 use lib.Seq.{length-take-le}
 use Rattle.std.specs.shelf.Lists.{All, sum}
 use Rattle.std.proofs.shelf.Lists.{take-append-drop}
 use Rattle.std.specs.declared.result.Result.{Result}
 use Rattle.std.specs.declared.result.Result.the-variants.{Ok, Err}
-use Rattle.questions.specs.declared.question.Question.{Question}
-use Rattle.book.specs.declared.field.Field.{Field}
 use Rattle.book.specs.declared.field.Fault.{Fault}
 use Rattle.book.specs.declared.index.Index.{Index}
 use Rattle.book.specs.Contents.{Contents, Valid}
@@ -22,13 +18,13 @@ use Rattle.book.specs.Readings.{Source, ask, andThen}
 use Rattle.book.specs.Grammar.{book}
 use Rattle.book.specs.Parse.{parse, rowCount}
 use Rattle.book.proofs.BookSteps.{cut-front}
-use Rattle.book.proofs.Inversion.{ok-so, ask-so}
 use Rattle.book.proofs.ValidBooks.{book-valid}
 use Rattle.draft.specs.Drafts.{inDraft}
 use Rattle.draft.specs.Encoding.{Fit, encode}
 use Rattle.draft.specs.Entries.{fields}
-use Rattle.draft.specs.Written.{fitted, written, taken, Reread}
+use Rattle.draft.specs.Written.{fitted, written, counted, overwritten, Reread}
 use Rattle.draft.specs.declared.draft.Draft.{Draft}
+use Rattle.draft.proofs.Fitting.{put-front}
 use Rattle.draft.proofs.Layers.{book-whole}
 use Rattle.draft.proofs.Trips.{there}
 
@@ -76,9 +72,8 @@ module _ (d : Draft) (rows : List (List ℕ)) (names : List ℕ) (i : Index) (en
   pub write-value : (room : ℕ) → fitted (encode parts) room ≡ written d room
   write-value room = sym (ap (λ r. andThen r (λ p. fitted (encode (p .0)) room)) given)
 
-  pub write-reread : (room : ℕ) (r : Result ℕ Fault) (out : List ℕ) → taken r out ≡ fitted (encode parts) room → Reread d r out
-  write-reread room (Err e) out was = tt
-  write-reread room (Ok n) out was =
-      ask-so (leb (length (encode parts)) room) Question.Room 0 Field.Whole (Ok (encode parts)) (sym was) (λ _ put.
-      let bytes : encode parts ≡ take n out = ok-so put in
-      (parts, end, given, λ room fits. ap (λ f. parse f room) (sym bytes) ∙ there (inDraft d) 0 parts end given room fits))
+  pub write-reread : (room : ℕ) (old : List ℕ) (r : Result ℕ Fault) (out : List ℕ) → r ≡ counted (fitted (encode parts) room) → out ≡ overwritten (fitted (encode parts) room) old → Reread d r out
+  write-reread room old (Err e) out value change = tt
+  write-reread room old (Ok n) out value change =
+      let bytes = put-front (encode parts) old out room n value change in
+      (parts, end, given, λ room fits. ap (λ f. parse f room) bytes ∙ there (inDraft d) 0 parts end given room fits)

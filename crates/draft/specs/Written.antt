@@ -31,10 +31,10 @@ fitted bytes room = ask (leb (length bytes) room) Question.Room 0 Field.Whole (O
 abbrev pub written : Draft → ℕ → Result (List ℕ) Fault
 written d room = andThen (book (inDraft d) 0) (λ p. fitted (encode (p .0)) room)
 
--- what a call has written into the first places of a slice
-abbrev pub taken : Result ℕ Fault → List ℕ → Result (List ℕ) Fault
-taken (Ok n) out = Ok (take n out)
-taken (Err e) out = Err e
+-- how many bytes were written
+abbrev pub counted : Result (List ℕ) Fault → Result ℕ Fault
+counted (Ok bytes) = Ok (length bytes)
+counted (Err e) = Err e
 
 -- what a slice holds after a writing: the bytes in its first places; after a refusal all that it held
 abbrev pub overwritten : Result (List ℕ) Fault → List ℕ → List ℕ
@@ -45,3 +45,8 @@ overwritten (Err e) old = old
 abbrev pub Reread : Draft → Result ℕ Fault → List ℕ → Type 0
 Reread d (Ok n) out = (c : Contents) × (end : ℕ) × (book (inDraft d) 0 ≡ Ok (c, end)) × ((room : ℕ) → rowCount c ≤ room → parse (take n out) room ≡ Ok c)
 Reread d (Err e) out = Unit {0}
+
+-- what was written for a read book is the file that it was read from
+abbrev pub Rewritten : List ℕ → Result ℕ Fault → List ℕ → Type 0
+Rewritten file (Ok n) out = take n out ≡ file
+Rewritten file (Err e) out = Unit {0}

@@ -2,13 +2,14 @@
 ghost use mathlib.Core.Path.{_≡_};
 ghost use Prim.Native.Nat.{_≤_};
 ghost use lib.ListN.{length};
+ghost use Rattle.std.specs.Vec.{made};
 ghost use Rattle.std.specs.shelf.Lists.{All, sum};
 ghost use Rattle.book.specs.Contents.{Valid};
 ghost use Rattle.draft.specs.Entries.{fields};
 ghost use Rattle.draft.specs.Encoding.{Fit, encode};
 ghost use Rattle.book.specs.Layout.{tableOf};
 ghost use Rattle.draft.specs.Lengths.{fileLength, tableBits};
-ghost use Rattle.draft.specs.Written.{Reread, contentsIn, fitted, overwritten, taken, written};
+ghost use Rattle.draft.specs.Written.{Reread, contentsIn, counted, fitted, overwritten, written};
 use crate::draft::Draft;
 use crate::fields::put;
 use crate::fields::put_options;
@@ -78,8 +79,9 @@ pub fn write_parts(parts: &Parts, out: &mut [u8]) -> Result<usize, Fault>
     requires spelled { ⌜ length (now (now parts .letters)) ≡ sum (now (now parts .lengths)) ⌝ }
     requires short { ⌜ length (now (now parts .letters)) ≤ 32768 ⌝ }
     requires fit { ⌜ All Fit (fields (contentsIn (now parts))) ⌝ }
-    ensures value { λ r. ⌜ taken r (now (out .exit)) ≡ fitted (encode (contentsIn (now (parts .entry)))) (length (now (out .entry))) ⌝ }
+    ensures value { λ r. ⌜ r ≡ counted (fitted (encode (contentsIn (now (parts .entry)))) (length (now (out .entry)))) ⌝ }
     ensures out { λ r. ⌜ now (out .exit) ≡ overwritten (fitted (encode (contentsIn (now (parts .entry)))) (length (now (out .entry)))) (now (out .entry)) ⌝ }
+    ensures inside { λ r. ⌜ made r (λ n. n ≤ length (now (out .exit))) ⌝ }
 {
     let needed = file_length(parts);
     if out.len() < needed {
@@ -95,8 +97,9 @@ pub fn write_parts(parts: &Parts, out: &mut [u8]) -> Result<usize, Fault>
 
 /// Writes the book that a draft describes: the bytes of its file in the first places of `out`, and how many these are. It asks of the draft what reading asks of a file, and last whether `out` has room. Later places do not change; a refusal leaves `out` as it was.
 pub fn write(draft: &Draft, out: &mut [u8]) -> Result<usize, Fault>
-    ensures value { λ r. ⌜ taken r (now (out .exit)) ≡ written (now (draft .entry)) (length (now (out .entry))) ⌝ }
+    ensures value { λ r. ⌜ r ≡ counted (written (now (draft .entry)) (length (now (out .entry)))) ⌝ }
     ensures out { λ r. ⌜ now (out .exit) ≡ overwritten (written (now (draft .entry)) (length (now (out .entry)))) (now (out .entry)) ⌝ }
+    ensures inside { λ r. ⌜ made r (λ n. n ≤ length (now (out .exit))) ⌝ }
     ensures reread { λ r. ⌜ Reread (now (draft .entry)) r (now (out .exit)) ⌝ }
 {
     let mut rows = [[0; 4]; 8192];

@@ -7,7 +7,7 @@ use Rattle.book.specs.Grammar.{book}
 use Rattle.book.specs.Layout.{contentsOf}
 use Rattle.book.specs.Readings.{told}
 use Rattle.draft.specs.Drafts.{inDraft}
-use Rattle.draft.specs.Written.{overwritten}
+use Rattle.draft.specs.Written.{counted, overwritten}
 use Rattle.draft.proofs.WriteDraft.{write-refused, letters-spelled, letters-short, parts-valid, parts-fit, write-value, write-reread}
 use Rattle.draft.proofs.writer.write.Needs as need
 
@@ -19,7 +19,7 @@ returns-in-Break-index c =
     let is : book (inDraft d) 0 ≡ Err e = (λ t. book (inDraft (sym (c .new-source .ensures .draft) t)) (sym (c .new-source .ensures .at) t))
     ∙ sym (c .book .ensures .value) ∙ ap (λ r. told (contentsOf (c .book .last .out) (c .book .last .names)) r (c .book .last .source .at)) (c .in-Break-index .was tt) in
     let value = write-refused d (length (c .args .out .now)) e is in
-    rw (p .1, p .2) (record { value = value; out = ap (λ r. overwritten r (c .args .out .now)) value; reread = tt })
+    rw (p .1, p .2) (record { value = ap counted value; out = ap (λ r. overwritten r (c .args .out .now)) value; inside = tt; reread = tt })
 
 pub write-parts-requires : need.write-parts-requires
 write-parts-requires c κs =
@@ -49,7 +49,8 @@ returns c =
     let room = length (c .args .out .now) in
     let value = write-value d rows names i _ is h (omega (arith, c .book .kept .names)) room in
     record {
-      value = c .write-parts .ensures .value ∙ value;
+      value = c .write-parts .ensures .value ∙ ap counted value;
       out = c .write-parts .ensures .out ∙ ap (λ r. overwritten r (c .args .out .now)) value;
-      reread = write-reread d rows names i _ is h (omega (arith, c .book .kept .names)) room (c .write-parts .result) (c .write-parts .last .out) (c .write-parts .ensures .value);
+      inside = c .write-parts .ensures .inside;
+      reread = write-reread d rows names i _ is h (omega (arith, c .book .kept .names)) room (c .args .out .now) (c .write-parts .result) (c .write-parts .last .out) (c .write-parts .ensures .value) (c .write-parts .ensures .out);
     }
