@@ -30,7 +30,7 @@ then-so (Err f) k e so = let z : _≡_ {A = ℕ} 0 1 = cc in absurd (omega arith
 pub next-so : {X Y P : Type 0} (m : Reading X) (k : X → Reading Y) (at : ℕ) {y : Y × ℕ} → next m k at ≡ Ok y → ((x : X) (end : ℕ) → m at ≡ Ok (x, end) → k x end ≡ Ok y → P) → P
 next-so m k at e so = then-so (m at) (λ p. k (p .0) (p .1)) e (λ p was rest. so (p .0) (p .1) was rest)
 
-both-so : (p q : Bool) → cond p q false ≡ true → (p ≡ true) × (q ≡ true)
+pub both-so : (p q : Bool) → cond p q false ≡ true → (p ≡ true) × (q ≡ true)
 both-so true q e = (refl, e)
 both-so false q e = absurd (clash e)
 

@@ -29,7 +29,7 @@ use Rattle.book.proofs.Inversion.{ok-so, next-so, each-so}
 use Rattle.book.proofs.FileNames.{tail-is}
 use Rattle.book.proofs.Layouts.{tables-agree}
 
-cut-lengths : (xs ns : List ℕ) → sum ns ≤ length xs → map length (cut xs ns) ≡ ns
+pub cut-lengths : (xs ns : List ℕ) → sum ns ≤ length xs → map length (cut xs ns) ≡ ns
 cut-lengths xs [] h = refl
 cut-lengths xs (n ∷ ns) h =
     let total = sumBy-cons (λ x. x) n ns in
@@ -114,5 +114,6 @@ module _ (file : List ℕ) (bytes : (i : ℕ) → getD file i 0 < 256) where
         tabled = h .tabled;
         spelled = h .spelled;
         inside = spelled .1;
+        bytes = bytes;
         is = ap (parse file) (ap length put ∙ length-append (take (i .rows) out) (drop (i .rows) old) ∙ omega (arith, length-take-le (i .rows) out (omega (arith, h .laid .few)), length-drop (i .rows) old)) ∙ is-c ∙ ap Ok same;
       }

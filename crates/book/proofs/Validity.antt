@@ -9,7 +9,7 @@ use native.Mathlib.Bridge.{le-prop}
 use Rattle.std.specs.shelf.Lists.{All}
 use Rattle.book.specs.Contents.{Table, Contents, ValidTable, Valid}
 
-all-prop : {X : Type 0} (P : X → Type 0) → ((x : X) → IsProp (P x)) → (xs : List X) → IsProp (All P xs)
+pub all-prop : {X : Type 0} (P : X → Type 0) → ((x : X) → IsProp (P x)) → (xs : List X) → IsProp (All P xs)
 all-prop P one [] = λ a b t. tt
 all-prop P one (x ∷ xs) = λ a b t. (one x (a .0) (b .0) t, all-prop P one xs (a .1) (b .1) t)
 

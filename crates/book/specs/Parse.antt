@@ -1,9 +1,9 @@
 -- The meaning of a file: the contents of a book, or the first question answered no.
 use mathlib.Core.Path.{_≡_}
 use mathlib.Core.List.{List, _++_, map}
-use Prim.Native.Nat.{ℕ, _-_, _≤_}
+use Prim.Native.Nat.{ℕ, _-_, _<_, _≤_}
 use lib.Dec.{leb}
-use lib.ListN.{length, take, drop}
+use lib.ListN.{length, getD, take, drop}
 use Rattle.std.specs.Joined.{joined}
 use Rattle.std.specs.shelf.Lists.{sum}
 use Rattle.std.specs.declared.result.Result.{Result}
@@ -45,4 +45,5 @@ pub record Read (file : List ℕ) (rows : List (List ℕ)) (i : Index) : Type 0 
   pub tabled : i .tables ≤ 48
   pub spelled : i .letters ≡ sum (take (i .options) (i .lengths))
   pub inside : i .letters ≤ length file
+  pub bytes : (k : ℕ) → getD file k 0 < 256
   pub is : parse file (length rows) ≡ Ok (indexed file rows i)

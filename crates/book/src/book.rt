@@ -1,11 +1,13 @@
 // A book that was read: only reading makes one.
 ghost use denote.Ref.{now as behind};
 ghost use mathlib.Core.Path.{_≡_};
-ghost use Prim.Native.Nat.{_-_, _≤_};
-ghost use lib.ListN.{length, take, drop};
+ghost use Prim.Native.Nat.{ℕ, _-_, _<_, _≤_};
+ghost use lib.ListN.{length, getD, take, drop};
+ghost use Rattle.std.specs.declared.result.Result.the-variants.{Ok};
 ghost use Rattle.std.specs.shelf.Lists.{sum};
 ghost use Rattle.book.specs.Contents.{Valid};
 ghost use Rattle.book.specs.Layout.{contentsOf};
+ghost use Rattle.book.specs.Parse.{indexed, parse};
 use crate::index::Index;
 use crate::index::Row;
 
@@ -19,6 +21,8 @@ pub struct Book<'a> {
     ghost tabled: { index .tables ≤ 48 },
     ghost spelled: { index .letters ≡ sum (take (index .options) (index .lengths)) },
     ghost inside: { index .letters ≤ length (behind file) },
+    ghost bytes: { (i : ℕ) → getD (behind file) i 0 < 256 },
+    ghost read: { ∥ parse (behind file) (length (behind rows)) ≡ Ok (indexed (behind file) (behind rows) index) ∥₁ },
     ghost valid: { ∥ Valid (contentsOf (behind rows) (drop (length (behind file) - index .letters) (behind file)) index) ∥₁ },
 }
 

@@ -5,7 +5,7 @@ ghost use lib.ListN.{length, getD, take, drop};
 ghost use Rattle.std.specs.Results.{mapped};
 ghost use Rattle.std.specs.Vec.{made};
 ghost use Rattle.std.specs.declared.result.Result.the-variants.{Ok};
-ghost use Rattle.book.specs.Books.{contents, named, namePlace, rowsAt, tablesAt};
+ghost use Rattle.book.specs.Books.{contents, letters, named, namePlace, rowsAt, tablesAt};
 ghost use Rattle.book.specs.Parse.{Read, parse};
 use super::Book;
 use crate::index::Index;
@@ -42,6 +42,20 @@ impl<'a> Book<'a> {
         ensures { λ r. ⌜ now r ≡ rowsAt (now (self .entry)) ⌝ }
     {
         self.rows
+    }
+
+    /// The length of each option's name.
+    pub fn lengths(&self) -> &[u8]
+        ensures { λ r. ⌜ now r ≡ take (now (self .entry) .index .options) (now (self .entry) .index .lengths) ⌝ }
+    {
+        &self.index.lengths[0..self.index.options]
+    }
+
+    /// The bytes of all names, as that part of the file's own bytes.
+    pub fn letters(&self) -> &'a [u8]
+        ensures { λ r. ⌜ now r ≡ letters (now (self .entry)) ⌝ }
+    {
+        &self.file[self.file.len() - self.index.letters..]
     }
 
     /// The byte of the file at which the name of an option begins.

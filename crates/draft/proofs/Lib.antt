@@ -1,0 +1,13 @@
+pub mod Spelling
+pub mod Said
+pub mod FileFields
+pub mod Layers
+pub mod Long
+pub mod Trips
+pub mod Dues
+pub mod TableDues
+pub mod BookDues
+pub mod Clamps
+pub mod Fitting
+pub mod WriteDraft
+pub mod Rewriting
