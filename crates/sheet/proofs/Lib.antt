@@ -1,2 +1,3 @@
 pub mod Unions
 pub mod Collecting
+pub mod Keeping

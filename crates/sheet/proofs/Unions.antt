@@ -19,7 +19,7 @@ second : (a b : Bool) → cond a b false ≡ true → b ≡ true
 second true b e = e
 second false b e = absurd (clash e)
 
-person-cases : {P : Type 0} (p : ℕ) → isPerson p ≡ true → (p ≡ 1 → P) → (p ≡ 2 → P) → P
+pub person-cases : {P : Type 0} (p : ℕ) → isPerson p ≡ true → (p ≡ 1 → P) → (p ≡ 2 → P) → P
 person-cases zero e one two = absurd (clash e)
 person-cases (suc zero) e one two = one refl
 person-cases (suc (suc zero)) e one two = two refl

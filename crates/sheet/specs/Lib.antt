@@ -1,2 +1,3 @@
 pub mod Decisions
 pub mod Starts
+pub mod Runs

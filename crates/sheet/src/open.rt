@@ -1,11 +1,13 @@
 // The open sheet: what stands on it, and the calls that change it.
 ghost use mathlib.Core.Bool.{true, false, not};
+ghost use mathlib.Core.List.{List, [], _∷_};
 ghost use mathlib.Core.Path.{_≡_};
 ghost use Prim.Native.Nat.{_<_, _≤_};
 ghost use lib.ListN.{length, getD, replicate};
 ghost use Rattle.std.specs.Results.{isOk};
 ghost use Rattle.std.specs.declared.result.Result.the-variants.{Ok};
 ghost use Rattle.book.specs.Books.{contents};
+ghost use Rattle.sheet.specs.Runs.{Call, Keeps, making, withdrawing};
 ghost use Rattle.sheet.specs.Decisions.{known, makes, made, placeOf, stands, withdraws, withdrawn};
 use crate::decision::Kind;
 use book::Book;
@@ -18,6 +20,7 @@ use values::only;
 #[derive(Drop)]
 pub struct Sheet {
     sets: [u32; 96],
+    ghost long: { length sets ≡ 96 },
 }
 
 /// Where the set of a person, a kind and an option is kept.
@@ -54,7 +57,7 @@ fn ask_known(book: &Book, person: usize, option: usize, value: usize) -> Result<
 impl Sheet {
     /// A sheet on which nothing stands.
     pub fn new() -> Sheet
-        ensures { λ r. ⌜ r .sets ≡ replicate 96 0 ⌝ }
+        ensures sets { λ r. ⌜ r .sets ≡ replicate 96 0 ⌝ }
     {
         Sheet { sets: [0; 96] }
     }
@@ -124,6 +127,7 @@ impl Sheet {
     ) -> Result<(), Question>
         ensures value { λ r. ⌜ r ≡ makes (contents (now (book .entry))) (now (self .entry) .sets) person Kind.Fix option value ⌝ }
         ensures sheet { λ r. ⌜ now (self .exit) .sets ≡ made r (now (self .entry) .sets) person Kind.Fix option value ⌝ }
+        ensures stands { λ _. ⌜ ((calls : List Call) → Keeps (contents (now (book .entry))) calls (now (self .entry) .sets) → Keeps (contents (now (book .entry))) (making person Kind.Fix option value ∷ calls) (now (self .exit) .sets)) ⌝ }
     {
         self.make(book, person, Kind::Fix, option, value)
     }
@@ -138,6 +142,7 @@ impl Sheet {
     ) -> Result<(), Question>
         ensures value { λ r. ⌜ r ≡ makes (contents (now (book .entry))) (now (self .entry) .sets) person Kind.Bar option value ⌝ }
         ensures sheet { λ r. ⌜ now (self .exit) .sets ≡ made r (now (self .entry) .sets) person Kind.Bar option value ⌝ }
+        ensures stands { λ _. ⌜ ((calls : List Call) → Keeps (contents (now (book .entry))) calls (now (self .entry) .sets) → Keeps (contents (now (book .entry))) (making person Kind.Bar option value ∷ calls) (now (self .exit) .sets)) ⌝ }
     {
         self.make(book, person, Kind::Bar, option, value)
     }
@@ -152,6 +157,7 @@ impl Sheet {
     ) -> Result<(), Question>
         ensures value { λ r. ⌜ r ≡ withdraws (contents (now (book .entry))) (now (self .entry) .sets) person Kind.Fix option value ⌝ }
         ensures sheet { λ r. ⌜ now (self .exit) .sets ≡ withdrawn r (now (self .entry) .sets) person Kind.Fix option value ⌝ }
+        ensures stands { λ _. ⌜ ((calls : List Call) → Keeps (contents (now (book .entry))) calls (now (self .entry) .sets) → Keeps (contents (now (book .entry))) (withdrawing person Kind.Fix option value ∷ calls) (now (self .exit) .sets)) ⌝ }
     {
         self.withdraw(book, person, Kind::Fix, option, value)
     }
@@ -166,6 +172,7 @@ impl Sheet {
     ) -> Result<(), Question>
         ensures value { λ r. ⌜ r ≡ withdraws (contents (now (book .entry))) (now (self .entry) .sets) person Kind.Bar option value ⌝ }
         ensures sheet { λ r. ⌜ now (self .exit) .sets ≡ withdrawn r (now (self .entry) .sets) person Kind.Bar option value ⌝ }
+        ensures stands { λ _. ⌜ ((calls : List Call) → Keeps (contents (now (book .entry))) calls (now (self .entry) .sets) → Keeps (contents (now (book .entry))) (withdrawing person Kind.Bar option value ∷ calls) (now (self .exit) .sets)) ⌝ }
     {
         self.withdraw(book, person, Kind::Bar, option, value)
     }
