@@ -52,3 +52,10 @@ pub record Closed (x : Branch) (xs : List Branch) (ts : List Saved) (b : List �
   pub branches : xs ≡ x ∷ ys
   pub trail : us ≡ until (x .mark) ts
   pub sets : d ≡ undoing (since (x .mark) ts) b
+
+-- No branch is open, and nothing changes.
+pub record Unopened (xs : List Branch) (ts : List Saved) (b : List ℕ) (ys : List Branch) (us : List Saved) (d : List ℕ) : Type 0 where
+  pub none : xs ≡ []
+  pub still : ys ≡ []
+  pub trail : us ≡ ts
+  pub sets : d ≡ b

@@ -1,12 +1,12 @@
 // The steps on the two stacks: a set is changed only when it is on the trail.
 ghost use mathlib.Core.Path.{_≡_};
-ghost use mathlib.Core.List.{_∷_, []};
+ghost use mathlib.Core.List.{_∷_};
 ghost use Prim.Native.Nat.{ℕ, _+_, _<_, _≤_};
 ghost use lib.ListN.{length, getD, set as put};
 ghost use Rattle.std.specs.Options.{Cases as BySome};
 ghost use Rattle.values.specs.Members.{In};
 ghost use Rattle.stack.specs.Views.{on, room};
-ghost use Rattle.trail.specs.Trails.{saved, undoing, since, until, total, Known, Saves, branch, Closed};
+ghost use Rattle.trail.specs.Trails.{saved, undoing, since, until, total, Known, Saves, branch, Closed, Unopened};
 use crate::kinds::Branch;
 use crate::kinds::Saved;
 use crate::kinds::Side;
@@ -89,14 +89,14 @@ pub fn open(
     });
 }
 
-/// Closes the last branch, where there is one: the sets are as they were when it was opened.
+/// Closes the last branch, where there is one: the sets are as they were when it was opened. Where there is none, nothing changes.
 pub fn close(
     sets: &mut [u32; 24],
     branches: &mut Stack<Branch>,
     trail: &mut Stack<Saved>,
 ) -> Option<Branch>
     requires { ⌜ Known (on (now trail)) ⌝ }
-    ensures last { λ r. ⌜ BySome r (on (now (branches .entry)) ≡ []) (λ x. Closed x (on (now (branches .entry))) (on (now (trail .entry))) (now (sets .entry)) (on (now (branches .exit))) (on (now (trail .exit))) (now (sets .exit))) ⌝ }
+    ensures last { λ r. ⌜ BySome r (Unopened (on (now (branches .entry))) (on (now (trail .entry))) (now (sets .entry)) (on (now (branches .exit))) (on (now (trail .exit))) (now (sets .exit))) (λ x. Closed x (on (now (branches .entry))) (on (now (trail .entry))) (now (sets .entry)) (on (now (branches .exit))) (on (now (trail .exit))) (now (sets .exit))) ⌝ }
     ensures rooms { λ _. ⌜ (room (now (branches .exit)) ≡ room (now (branches .entry))) × (room (now (trail .exit)) ≡ room (now (trail .entry))) ⌝ }
 {
     let Some(branch) = branches.pop() else {
