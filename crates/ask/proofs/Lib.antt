@@ -1,0 +1,5 @@
+pub mod Singles
+pub mod Starts
+pub mod Opened
+pub mod Rises
+pub mod Descents

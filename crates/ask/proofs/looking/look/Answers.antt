@@ -1,0 +1,40 @@
+use mathlib.Core.Path.{_≡_, refl, subst}
+use mathlib.Core.Bool.{Bool, true, false}
+use Prim.Native.Nat.{_^_, _<_}
+use native.Mathlib.Omega.{arith}
+use borrow.Author.Needs.{needs}
+use lib.ListN.{length, getD}
+use Rattle.ask.specs.Looks.{no-value, seen-box}
+use Rattle.ask.proofs.Singles.{one-value}
+use Rattle.ask.proofs.Starts.{small-next}
+use Rattle.ask.proofs.looking.look.Needs as need
+
+abbrev Is : Bool → Type 0
+Is true = ⊥
+Is false = Unit {0}
+
+not-so : {P : Type 0} → (P → false ≡ true) → P → ⊥
+not-so h p = subst Is (h p) tt
+
+pub returns-in-rest : need.returns-in-rest
+returns-in-rest g c = no-value (c .in-rest .ensures tt)
+
+pub returns-in-rest-pick : need.returns-in-rest-pick
+returns-in-rest-pick g c =
+    (c .in-Some .ensures tt, λ x l. let f = small-next (c .args .book .now) _ _ (c .in-Some .ensures tt .propagated) x l in one-value (getD (c .in-Some .next .sets) x 0) f (c .in-Some .ensures tt .propagated .some x l) (c .in-rest-pick .ensures tt x l), refl)
+
+pub returns-then-seen : need.returns-then-seen
+returns-then-seen g c =
+    seen-box (c .in-Some .ensures tt) (c .in-Some-pick .ensures tt) (record { box = c .box-of-noted .ensures; long = search needs }) (c .if-seen .ensures tt .answer .0 refl) (record { change = c .seen .ensures .change; same = c .seen .ensures .same })
+
+pub returns : need.returns
+returns g c = (
+  c .box-of-noted .result,
+  record {
+    narrows = c .in-Some .ensures tt;
+    picked = c .in-Some-pick .ensures tt;
+    boxed = record { box = c .box-of-noted .ensures; long = search needs };
+    fresh = not-so (c .if-seen .ensures tt .answer .1);
+    looked = record { change = c .seen .ensures .change; same = c .seen .ensures .same };
+  },
+)

@@ -1,0 +1,10 @@
+// The ask: is there a fit inside some starting sets?
+mod asking;
+mod climbing;
+mod fits;
+mod kinds;
+mod looking;
+
+pub use asking::ask;
+pub use kinds::Answer;
+pub use kinds::Asked;
