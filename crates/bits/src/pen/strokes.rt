@@ -29,13 +29,6 @@ impl Pen {
         8 * self.at + self.count
     }
 
-    /// How many whole bytes are written.
-    pub fn bytes(&self) -> usize
-        ensures { λ r. ⌜ r ≡ now (self .entry) .at ⌝ }
-    {
-        self.at
-    }
-
     /// Writes `value` in `width` bits behind what is written.
     pub fn put(&mut self, out: &mut [u8], width: usize, value: usize)
         requires narrow { ⌜ width ≤ 32 ⌝ }
