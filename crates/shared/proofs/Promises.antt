@@ -59,11 +59,11 @@ module _ (c : Contents) (stands : Standing) where
   starts-once a b s t =
       let even : length a ≡ length b = s .long ∙ sym (t .long) in
       let at : (x : ℕ) → getD a x 0 ≡ getD b x 0 = λ x. ⊎-elim
-          (λ lt. same-from-values (getD a x 0) (getD b x 0)
-              (λ v i. let r = s .sound x v lt i in t .whole x v lt (r .0) (r .1))
-              (λ v i. let r = t .sound x v lt i in s .whole x v lt (r .0) (r .1)))
-          (λ ge. s .lacking x ge ∙ sym (t .lacking x ge))
-          (cases-lt x (length (c .sizes))) in
+      (λ lt. same-from-values (getD a x 0) (getD b x 0)
+      (λ v i. let r = s .sound x v lt i in t .whole x v lt (r .0) (r .1))
+      (λ v i. let r = t .sound x v lt i in s .whole x v lt (r .0) (r .1)))
+      (λ ge. s .lacking x ge ∙ sym (t .lacking x ge))
+      (cases-lt x (length (c .sizes))) in
       same-lists a b even (λ x d h. getD-default a x d 0 h ∙ at x ∙ getD-default b x 0 d (omega arith))
 
   module _ (array : List ℕ) (s : Starts c stands array) where

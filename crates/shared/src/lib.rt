@@ -2,4 +2,5 @@
 mod calls;
 mod questions_of_asks;
 
+pub use calls::ask_on;
 pub use calls::open_on;

@@ -24,7 +24,14 @@ fn all_sizes(book: &Book) -> usize
 }
 
 /// Asks the questions of an ask, with slices of these lengths.
-pub fn askable(book: &Book, person: usize, budget: usize, branches: usize, trail: usize, fit: usize) -> Result<(), Question>
+pub fn askable(
+    book: &Book,
+    person: usize,
+    budget: usize,
+    branches: usize,
+    trail: usize,
+    fit: usize,
+) -> Result<(), Question>
     ensures value { λ r. ⌜ r ≡ askable (contents (now (book .entry))) person budget branches trail fit ⌝ }
     ensures range { λ r. ⌜ (isOk r ≡ true → (budget ≤ 1000000) × (sum (contents (now (book .entry)) .sizes) ≤ branches) × (sum (contents (now (book .entry)) .sizes) ≤ trail) × (length (contents (now (book .entry)) .sizes) ≤ fit)) ⌝ }
 {
