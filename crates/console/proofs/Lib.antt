@@ -1,0 +1,3 @@
+pub mod Passing
+pub mod Bridge
+pub mod Opening

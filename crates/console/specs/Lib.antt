@@ -1,0 +1,3 @@
+pub mod Grammar
+pub mod Listed
+pub mod Roles
