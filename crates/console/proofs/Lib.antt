@@ -1,3 +1,4 @@
 pub mod Passing
 pub mod Bridge
 pub mod Opening
+pub mod Spacing

@@ -1,3 +1,4 @@
 pub mod Grammar
 pub mod Listed
 pub mod Roles
+pub mod Printed

@@ -2,10 +2,14 @@
 
 mod command;
 mod numbers;
+mod printing;
 mod reading;
+mod reply;
 mod role;
 
 pub use command::Command;
 pub use command::CommandDebug;
 pub use command::CommandPartialEq;
+pub use printing::line;
 pub use reading::parse;
+pub use reply::Reply;
