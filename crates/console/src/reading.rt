@@ -18,10 +18,10 @@ const DIGITS: u8 = 7;
 fn role(byte: u8, digits: u8, count: usize) -> Role
     ensures { λ r. ⌜ Fitting byte digits count r ⌝ }
 {
-    if 48 <= byte && byte <= 57 && digits < DIGITS {
+    if b'0' <= byte && byte <= b'9' && digits < DIGITS {
         return Role::Digit;
     }
-    if byte == 32 && 0 < digits && count < 2 {
+    if byte == b' ' && 0 < digits && count < 2 {
         return Role::Blank;
     }
     Role::Wrong
@@ -39,7 +39,7 @@ fn read_numbers(text: &[u8]) -> Option<Numbers>
     for byte in text {
         match role(*byte, digits, count) {
             Role::Digit => {
-                value = value * 10 + (*byte - 48) as u32;
+                value = value * 10 + (*byte - b'0') as u32;
                 digits += 1;
             }
             Role::Blank => {
@@ -115,7 +115,7 @@ fn order(letter: u8, found: Numbers) -> Option<Command>
 fn opens(line: &[u8]) -> bool
     ensures { λ r. ⌜ Decides r (Opening (now (line .entry))) ⌝ }
 {
-    2 <= line.len() && line.len() <= LONGEST && line[1] == 32
+    2 <= line.len() && line.len() <= LONGEST && line[1] == b' '
 }
 
 /// What a line asks for, which comes without its line feed; nothing where it is not of the form of a line.
