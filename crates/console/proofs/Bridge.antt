@@ -64,7 +64,7 @@ behind-onto : (b : ℕ) (ps : List (List ℕ)) → behind 0 0 (onto b ps) ≡ nu
 behind-onto b [] = ap (λ o. before o (Some [])) (continued-start (b ∷ []))
 behind-onto b (p ∷ ps) = ap (λ o. before o (numerals ps)) (continued-start (b ∷ p))
 
-parts-by : {Y : Type 0} (F G : List (List ℕ) → Y) → F ([] ∷ []) ≡ G ([] ∷ [])
+pub parts-by : {Y : Type 0} (F G : List (List ℕ) → Y) → F ([] ∷ []) ≡ G ([] ∷ [])
     → ((ps : List (List ℕ)) → F ([] ∷ ps) ≡ G ([] ∷ ps)) → ((b : ℕ) (ps : List (List ℕ)) → F (onto b ps) ≡ G (onto b ps))
     → (bs : List ℕ) → F (parts bs) ≡ G (parts bs)
 parts-by F G e f g [] = e

@@ -2,3 +2,4 @@ pub mod Passing
 pub mod Bridge
 pub mod Opening
 pub mod Spacing
+pub mod Sayings

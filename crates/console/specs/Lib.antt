@@ -2,3 +2,4 @@ pub mod Grammar
 pub mod Listed
 pub mod Roles
 pub mod Printed
+pub mod Form

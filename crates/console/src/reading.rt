@@ -1,6 +1,8 @@
 ghost use mathlib.Core.Path.{_≡_};
 ghost use Rattle.std.specs.Options.{mapped};
 ghost use Rattle.console.specs.Grammar.{parts, numerals, upToThree, decided, asked, ordered, command};
+ghost use Rattle.console.specs.Form.{Says};
+ghost use Rattle.std.specs.declared.option.Option.the-variants.{Some};
 ghost use Rattle.console.specs.Listed.{listed};
 ghost use Rattle.console.specs.Roles.{Fitting, Opening};
 ghost use Rattle.std.specs.Orderings.{Decides};
@@ -120,7 +122,8 @@ fn opens(line: &[u8]) -> bool
 
 /// What a line asks for, which comes without its line feed; nothing where it is not of the form of a line.
 pub fn parse(line: &[u8]) -> Option<Command>
-    ensures { λ r. ⌜ r ≡ command (now (line .entry)) ⌝ }
+    ensures value { λ r. ⌜ r ≡ command (now (line .entry)) ⌝ }
+    ensures said { λ r. ⌜ ((k : Command) → (r ≡ Some k → Says (now (line .entry)) k) × (Says (now (line .entry)) k → r ≡ Some k)) ⌝ }
 {
     if !opens(line) {
         return None;
