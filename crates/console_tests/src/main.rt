@@ -1,4 +1,5 @@
 // Shows what lines ask for, of the right form and of wrong ones, and prints a line of every kind.
+ghost use Rattle.console_tests.specs.Conversation.{Reads, Prints};
 use console::CommandDebug;
 use console::Reply;
 use questions::Question;
@@ -39,6 +40,14 @@ const WRONG: [&str; 10] = [
     "A 1 100\r",
     " F 1 2 3",
 ];
+
+/// How many lines the conversation has; each is read and printed as it should be.
+fn conversation_stands() -> usize
+    ensures reads { λ _. ⌜ Reads ⌝ }
+    ensures prints { λ _. ⌜ Prints ⌝ }
+{
+    RIGHT.len()
+}
 
 fn show(rt: &LibcRuntime, line: &[u8]) -> io::Result<()> {
     match console::parse(line) {
@@ -105,6 +114,8 @@ fn tell_all(rt: &LibcRuntime) -> io::Result<()> {
 }
 
 fn main(rt: LibcRuntime) -> io::Result<()> {
+    let lines = conversation_stands();
+    println!(rt, "A conversation of {lines} lines:")?;
     show_all(&rt, &RIGHT)?;
     show_all(&rt, &EDGE)?;
     show_all(&rt, &WRONG)?;
