@@ -1,0 +1,5 @@
+pub mod Passing
+pub mod Bridge
+pub mod Opening
+pub mod Spacing
+pub mod Sayings

@@ -1,0 +1,5 @@
+pub mod Grammar
+pub mod Listed
+pub mod Roles
+pub mod Printed
+pub mod Form
