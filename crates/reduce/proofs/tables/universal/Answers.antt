@@ -18,7 +18,7 @@ abbrev no-table : Table
 no-table = record { scope = []; rows = [] }
 
 pub covers-requires : need.covers-requires
-covers-requires c κs = one-of (c .args .book .now) (c .tables-tables .result .now) (c .args .table) (c .tables-tables .ensures) (c .if-table-tables .left)
+covers-requires c κs = one-of (c .args .book .now) (c .tables-tables .result .now) (c .args .table) (c .tables-tables .ensures) (omega arith)
 
 pub returns-then-table-tables : need.returns-then-table-tables
 returns-then-table-tables c = (
@@ -32,7 +32,7 @@ returns c =
     let i = c .args .table in
     let tables = c .tables-tables .result .now in
     let t = getD tables i blank in
-    let one = one-of b tables i (c .tables-tables .ensures) (c .if-table-tables .left) in
+    let one = one-of b tables i (c .tables-tables .ensures) (omega arith) in
     let known = table-valid b t one .known in
     let within : i < length (contents b .tables) = omega (arith, c .if-table-tables .left, ap length (c .tables-tables .ensures), length-map (tablesAt b) (tableAt b)) in
     let inner : i < length (tablesAt b) = omega (arith, c .if-table-tables .left, ap length (c .tables-tables .ensures)) in
