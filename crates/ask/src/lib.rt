@@ -4,7 +4,9 @@ mod climbing;
 mod fits;
 mod kinds;
 mod looking;
+mod words;
 
 pub use asking::ask;
 pub use kinds::Answer;
 pub use kinds::Asked;
+pub use words::AnswerDisplay;
