@@ -1,9 +1,7 @@
 // The ask: is there a fit inside some starting sets?
 mod asking;
-mod climbing;
 mod fits;
 mod kinds;
-mod looking;
 mod words;
 
 pub use asking::ask;

@@ -16,7 +16,7 @@ use Rattle.trail.specs.declared.kinds.Side.the-variants.{Left, Right}
 use Rattle.trail.specs.Trails.{undoing, since, until, total, Known}
 use Rattle.trials.specs.Picks.{Picked}
 use Rattle.trials.specs.Trials.{Verdict, refuted, Over, Boxed, Trial, cutFrom}
-use Rattle.ask.specs.Looks.{Notes}
+use Rattle.branching.specs.Looks.{Notes}
 
 -- an open trial: its propagated sets and its pick, by which of its two trials is being made
 pub data Frame : Type 0 where

@@ -10,11 +10,11 @@ use Rattle.stack.specs.Views.{on, room}
 use Rattle.stack.proofs.Rooms.{on-room}
 use Rattle.trail.specs.Trails.{branch}
 use Rattle.trail.specs.declared.kinds.Side.the-variants.{Right}
-use Rattle.ask.specs.Frames.{frames}
-use Rattle.ask.proofs.Singles.{ones-less}
-use Rattle.ask.proofs.Opened.{Shut, shut, opened-as, paired-as, frames-none}
-use Rattle.ask.proofs.Rises.{climbing-close, climbing-turn, climbing-done}
-use Rattle.ask.proofs.climbing.climb.Needs as need
+use Rattle.branching.specs.Frames.{frames}
+use Rattle.branching.proofs.Singles.{ones-less}
+use Rattle.branching.proofs.Opened.{Shut, shut, opened-as, paired-as, frames-none}
+use Rattle.branching.proofs.Rises.{climbing-close, climbing-turn, climbing-done}
+use Rattle.branching.proofs.climbing.climb.Needs as need
 
 pub climbing-again : need.climbing-again
 climbing-again g c =

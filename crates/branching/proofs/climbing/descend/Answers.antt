@@ -5,9 +5,9 @@ use borrow.Author.Needs.{needs}
 use lib.ListN.{length, set}
 use Rattle.stack.specs.Views.{on, room}
 use Rattle.trail.specs.Trails.{total}
-use Rattle.ask.proofs.Descents.{inside-start, small-value, descent-room, descent-sets, descent-frames, descent-paired}
+use Rattle.branching.proofs.Descents.{inside-start, small-value, descent-room, descent-sets, descent-frames, descent-paired}
 use Rattle.book.specs.Books.{contents}
-use Rattle.ask.proofs.climbing.descend.Needs as need
+use Rattle.branching.proofs.climbing.descend.Needs as need
 
 pub adopt-requires : need.adopt-requires
 adopt-requires c κs =

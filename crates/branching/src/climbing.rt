@@ -11,7 +11,7 @@ ghost use Rattle.trail.specs.Trails.{saved, branch};
 ghost use Rattle.trail.specs.declared.kinds.Side.the-variants.{Right};
 ghost use Rattle.trials.specs.Picks.{Picked};
 ghost use Rattle.trials.specs.Trials.{Narrows, cutTo, cutFrom};
-ghost use Rattle.ask.specs.Frames.{onLeft, frames, Paired, Climbed};
+ghost use Rattle.branching.specs.Frames.{onLeft, frames, Paired, Climbed};
 use crate::looking::tell;
 use book::Book;
 use propagate::ValueSets;

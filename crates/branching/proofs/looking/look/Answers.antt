@@ -4,10 +4,10 @@ use Prim.Native.Nat.{_^_, _<_}
 use native.Mathlib.Omega.{arith}
 use borrow.Author.Needs.{needs}
 use lib.ListN.{length, getD}
-use Rattle.ask.specs.Looks.{no-value, seen-box}
-use Rattle.ask.proofs.Singles.{one-value}
-use Rattle.ask.proofs.Starts.{small-next}
-use Rattle.ask.proofs.looking.look.Needs as need
+use Rattle.branching.specs.Looks.{no-value, seen-box}
+use Rattle.branching.proofs.Singles.{one-value}
+use Rattle.branching.proofs.Smalls.{small-next}
+use Rattle.branching.proofs.looking.look.Needs as need
 
 abbrev Is : Bool → Type 0
 Is true = ⊥

@@ -15,7 +15,7 @@ use Rattle.trail.specs.declared.kinds.Branch.{Branch}
 use Rattle.trail.specs.declared.kinds.Saved.{Saved}
 use Rattle.trail.specs.Trails.{saved, undoing, since, until, total, Known, Saves, none, more, Closed}
 use Rattle.trail.proofs.Undone.{undoing-saved, since-none, until-none, until-cons, total-set}
-use Rattle.ask.specs.Frames.{Frame, frame, frames, Spare, Nested, Paired}
+use Rattle.branching.specs.Frames.{Frame, frame, frames, Spare, Nested, Paired}
 
 -- the same frames, by other saves and other sets
 pub record Same (c : Contents) (xs : List Branch) (ts : List Saved) (b : List ℕ) (us : List Saved) (d : List ℕ) : Type 0 where

@@ -12,8 +12,8 @@ use Rattle.store.specs.Meaning.{Meaning, Told}
 use Rattle.trail.specs.declared.kinds.Branch.{Branch}
 use Rattle.trail.specs.declared.kinds.Side.the-variants.{Left, Right}
 use Rattle.trials.specs.Trials.{Verdict, refuted, found, stopped, Over, Unspent, Narrows, Boxed, Branches, Trial, emptied, seen, left, right, both, cutTo, cutFrom}
-use Rattle.ask.specs.Looks.{AtOnce, no-value, seen-box, Notes}
-use Rattle.ask.specs.Frames.{Frame, onLeft, onRight, framed, frame, End, ends, Tried, Up, top, over, turn, close, Leads, Climbed}
+use Rattle.branching.specs.Looks.{AtOnce, no-value, seen-box, Notes}
+use Rattle.branching.specs.Frames.{Frame, onLeft, onRight, framed, frame, End, ends, Tried, Up, top, over, turn, close, Leads, Climbed}
 
 -- an array has one box
 same-box : (c : Contents) (array : List ℕ) (a b : ValueBox) → Boxed c array a → Boxed c array b → a ≡ b

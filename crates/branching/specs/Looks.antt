@@ -10,8 +10,8 @@ use Rattle.propagate.specs.Propagation.{LeavesNone}
 use Rattle.store.specs.Meaning.{Meaning, Looked, Told}
 use Rattle.trials.specs.Picks.{sizeAt, Picked}
 use Rattle.trials.specs.Trials.{Narrows, Boxed, Branches}
-use Rattle.ask.specs.declared.kinds.Look.{Look}
-use Rattle.ask.specs.declared.kinds.Look.the-variants.{Refuted, Settled, Open}
+use Rattle.branching.specs.declared.kinds.Look.{Look}
+use Rattle.branching.specs.declared.kinds.Look.the-variants.{Refuted, Settled, Open}
 
 -- refuted at once: some option has no value left, or the store has seen the box
 pub data AtOnce (c : Contents) {S : Type 0} (m : Meaning S) (array : List ℕ) (s : S) : S → Type 0 where

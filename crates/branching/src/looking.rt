@@ -5,7 +5,7 @@ ghost use Rattle.std.specs.Options.{Cases as BySome};
 ghost use Rattle.propagate.specs.Propagation.{LeavesNone, Ends};
 ghost use Rattle.propagate.specs.Sets.{setsOf};
 ghost use Rattle.trials.specs.Trials.{Narrows};
-ghost use Rattle.ask.specs.Looks.{Looks, Notes};
+ghost use Rattle.branching.specs.Looks.{Looks, Notes};
 use crate::kinds::Look;
 use book::Book;
 use pick::pick;

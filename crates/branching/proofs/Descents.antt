@@ -19,10 +19,10 @@ use Rattle.trail.specs.declared.kinds.Branch.{Branch}
 use Rattle.trail.specs.declared.kinds.Saved.{Saved}
 use Rattle.trail.specs.declared.kinds.Side.the-variants.{Left}
 use Rattle.trail.specs.Trails.{branch, saved, Saves}
-use Rattle.ask.specs.Frames.{Frame, onLeft, frames, Spare, Paired}
-use Rattle.ask.proofs.Singles.{ones-of-one}
-use Rattle.ask.proofs.Starts.{small-next}
-use Rattle.ask.proofs.Opened.{Same, same-saves, opened-as, paired-as, room-for, nested-length}
+use Rattle.branching.specs.Frames.{Frame, onLeft, frames, Spare, Paired}
+use Rattle.branching.proofs.Singles.{ones-of-one}
+use Rattle.branching.proofs.Smalls.{small-next}
+use Rattle.branching.proofs.Opened.{Same, same-saves, opened-as, paired-as, room-for, nested-length}
 
 -- propagated sets lie inside those that they come from
 pub inside-start : (c : Contents) (start end : List ℕ) → Propagated c start end → (x v : ℕ) → x < length (c .sizes) → In (getD end x 0) v → In (getD start x 0) v

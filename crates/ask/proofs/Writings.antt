@@ -1,28 +1,21 @@
--- Sets of one value.
+-- The only value of each set, written one after another.
 use mathlib.Core.Path.{_≡_, refl, sym, ap, subst, _∙_}
 use mathlib.Core.List.{List}
 use mathlib.Core.Logic.{_⊎_, inl, inr, _≢_}
+use Prim.Native.Nat.{ℕ, _+_, _^_, _<_, _≤_}
+use native.Mathlib.Omega.{arith}
+use lib.Count.{ones}
 use lib.ListN.{length, getD, set, take}
 use lib.Seq.{getD-set-same, getD-set-other, getD-take}
-use Rattle.std.proofs.shelf.Lists.{length-take-le}
-use Rattle.book.specs.Contents.{Contents}
-use Rattle.trials.specs.Picks.{Single}
-use Prim.Native.Nat.{ℕ, _+_, _-_, _*_, _/_, _%_, _^_, _<_, _≤_}
-use native.Mathlib.Omega.{arith}
-use lib.Count.{ones, ones-cat, ones-step}
-use native.Mathlib.Nat.{mod-lt, add-mul, div-add-mod'}
-use Rattle.std.proofs.shelf.Tests.{cases-eq}
 use Rattle.std.proofs.shelf.Bits.{pow-pos, pow-below}
+use Rattle.std.proofs.shelf.Lists.{length-take-le}
+use Rattle.std.proofs.shelf.Tests.{cases-eq}
+use Rattle.book.specs.Contents.{Contents}
 use Rattle.values.specs.Members.{In, Lowest}
-use Rattle.values.proofs.Digits.{in-zero, in-one-only, in-lt, ones-zero}
+use Rattle.values.proofs.Digits.{in-one-only, in-lt}
+use Rattle.trials.specs.Picks.{Single}
 use Rattle.trail.proofs.Fewer.{fewer}
-
--- a set that is not empty has a value
-pub some-value : (s : ℕ) → s < 2 ^ 32 → 0 < s → 0 < ones s
-some-value s l p = omega (arith, ones-zero, fewer 32 0 s (omega arith) l (λ v i. absurd (in-zero v i)) (λ e. omega arith))
-
-pub one-value : (s : ℕ) → s < 2 ^ 32 → 0 < s → ones s < 2 → ones s ≡ 1
-one-value s l p h = omega (arith, some-value s l p)
+use Rattle.branching.proofs.Singles.{some-value}
 
 -- the only value of a set
 pub only-value : (s v : ℕ) → s < 2 ^ 32 → ones s ≡ 1 → In s v → s ≡ 2 ^ v
@@ -32,26 +25,6 @@ only-value s v l e i =
       | inl d ↦ d
       | inr d ↦ absurd (omega (arith, e, some-value (2 ^ v) b (pow-pos v), fewer 32 (2 ^ v) s b l (λ w j. subst (λ n. In s n) (sym (in-one-only v w j)) i) (λ f. d (sym f))))
     ]
-
--- a set of one value, and a set that loses one
-one-and-none : ones 1 + ones 0 ≡ 1
-unfolding ones
-one-and-none = refl
-
-pub ones-of-one : (v : ℕ) → ones (2 ^ v) ≡ 1
-ones-of-one v = let e : 1 * 2 ^ v + 0 ≡ 2 ^ v = omega arith in sym (ap ones e) ∙ ones-cat v 1 0 (pow-pos v) ∙ one-and-none
-
-pub ones-less : (s v : ℕ) → In s v → ones (s - 2 ^ v) < ones s
-ones-less s v i =
-    let h = s / 2 ^ v in
-    let r = s % 2 ^ v in
-    let low : r < 2 ^ v = mod-lt s (pow-pos v) in
-    let whole : h * 2 ^ v + r ≡ s = div-add-mod' s (2 ^ v) in
-    let h-is : h - 1 + 1 ≡ h = omega (arith, i) in
-    let parts : (h - 1) * 2 ^ v + 1 * 2 ^ v ≡ h * 2 ^ v = sym (add-mul (h - 1) 1 (2 ^ v)) ∙ ap (λ n. n * 2 ^ v) h-is in
-    let rest : (h - 1) * 2 ^ v + r ≡ s - 2 ^ v = omega (arith, whole, parts) in
-    let half : (h - 1) / 2 ≡ h / 2 = omega (arith, i) in
-    omega (arith, sym (ap ones whole) ∙ ones-cat v h r low, sym (ap ones rest) ∙ ones-cat v (h - 1) r low, ones-step h, ones-step (h - 1), ap ones half, i)
 
 -- the first m values are written
 pub record Writing (array before : List ℕ) (m : ℕ) (now : List ℕ) : Type 0 where

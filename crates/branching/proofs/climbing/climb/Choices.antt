@@ -3,9 +3,9 @@ use Prim.Native.Nat.{_≤_}
 use lib.ListN.{length}
 use Rattle.book.specs.Books.{contents}
 use Rattle.stack.specs.Views.{on, room}
-use Rattle.ask.specs.Frames.{frames, Paired}
-use Rattle.ask.proofs.Rises.{Climbing}
-use Rattle.ask.proofs.climbing.climb.Given as given
+use Rattle.branching.specs.Frames.{frames, Paired}
+use Rattle.branching.proofs.Rises.{Climbing}
+use Rattle.branching.proofs.climbing.climb.Given as given
 
 abbrev pub Inv-climbing : given.InvT-climbing
 Inv-climbing g l =
