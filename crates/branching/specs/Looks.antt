@@ -1,8 +1,10 @@
 -- What a trial is once its sets are propagated and their box is looked for.
 use mathlib.Core.Path.{_≡_}
 use mathlib.Core.List.{List}
+use mathlib.Core.Bool.{Bool}
 use Prim.Native.Nat.{ℕ, _<_}
 use lib.ListN.{length}
+use Rattle.std.specs.Orderings.{Decides}
 use Rattle.book.specs.Contents.{Contents}
 use Rattle.boxes.specs.declared.ValueBox.{ValueBox}
 use Rattle.propagate.specs.Sets.{setsOf}
@@ -32,3 +34,7 @@ Looks c m array s t (Open next option value) = (b : ValueBox) × Branches c m ar
 -- the store is told the box of the array
 abbrev pub Notes : (c : Contents) {S : Type 0} (m : Meaning S) → List ℕ → S → S → Type 0
 Notes c m array s t = (b : ValueBox) × Boxed c array b × Told m s b t
+
+-- the store is asked for the box of the array, and answers r
+abbrev pub Sought : (c : Contents) {S : Type 0} (m : Meaning S) → List ℕ → S → S → Bool → Type 0
+Sought c m array s t r = (b : ValueBox) × Boxed c array b × Decides r (m .held s b) × Looked m s b t

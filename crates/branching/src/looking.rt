@@ -5,7 +5,7 @@ ghost use Rattle.std.specs.Options.{Cases as BySome};
 ghost use Rattle.propagate.specs.Propagation.{LeavesNone, Ends};
 ghost use Rattle.propagate.specs.Sets.{setsOf};
 ghost use Rattle.trials.specs.Trials.{Narrows};
-ghost use Rattle.branching.specs.Looks.{Looks, Notes};
+ghost use Rattle.branching.specs.Looks.{Looks, Notes, Sought};
 use crate::kinds::Look;
 use book::Book;
 use pick::pick;
@@ -36,6 +36,14 @@ fn narrowed(book: &Book, sets: &[u32; 24]) -> Option<ValueSets>
     }
 }
 
+/// Whether the store has seen the box of the sets.
+fn seek<S: Store>(book: &Book, sets: &ValueSets, store: &mut S) -> bool
+    ensures { λ r. ⌜ Sought (contents (now (book .entry))) S·Store (now (sets .entry) .sets) (now (store .entry)) (now (store .exit)) r ⌝ }
+{
+    let noted = box_of(book, sets);
+    store.seen(&noted)
+}
+
 /// Begins a trial on the sets, and says what it is.
 pub fn look<S: Store>(book: &Book, sets: &[u32; 24], store: &mut S) -> Look
     ensures { λ r. ⌜ Looks (contents (now (book .entry))) S·Store (now (sets .entry)) (now (store .entry)) (now (store .exit)) r ⌝ }
@@ -46,8 +54,7 @@ pub fn look<S: Store>(book: &Book, sets: &[u32; 24], store: &mut S) -> Look
     let Some((option, value)) = pick(book, &next) else {
         return Look::Settled(next);
     };
-    let noted = box_of(book, &next);
-    if store.seen(&noted) {
+    if seek(book, &next, store) {
         return Look::Refuted;
     }
     Look::Open(next, option, value)

@@ -23,18 +23,20 @@ pub returns-in-rest-pick : need.returns-in-rest-pick
 returns-in-rest-pick g c =
     (c .in-Some .ensures tt, λ x l. let f = small-next (c .args .book .now) _ _ (c .in-Some .ensures tt .propagated) x l in one-value (getD (c .in-Some .next .sets) x 0) f (c .in-Some .ensures tt .propagated .some x l) (c .in-rest-pick .ensures tt x l), refl)
 
-pub returns-then-seen : need.returns-then-seen
-returns-then-seen g c =
-    seen-box (c .in-Some .ensures tt) (c .in-Some-pick .ensures tt) (record { box = c .box-of-noted .ensures; long = search needs }) (c .if-seen .ensures tt .answer .0 refl) (record { change = c .seen .ensures .change; same = c .seen .ensures .same })
+pub returns-then-seek : need.returns-then-seek
+returns-then-seek g c =
+    let e = c .if-seek .ensures tt in
+    seen-box (c .in-Some .ensures tt) (c .in-Some-pick .ensures tt) (e .1) (e .2 .0 refl) (e .3)
 
 pub returns : need.returns
-returns g c = (
-  c .box-of-noted .result,
-  record {
-    narrows = c .in-Some .ensures tt;
-    picked = c .in-Some-pick .ensures tt;
-    boxed = record { box = c .box-of-noted .ensures; long = search needs };
-    fresh = not-so (c .if-seen .ensures tt .answer .1);
-    looked = record { change = c .seen .ensures .change; same = c .seen .ensures .same };
-  },
-)
+returns g c =
+    let e = c .if-seek .ensures tt in (
+      e .0,
+      record {
+        narrows = c .in-Some .ensures tt;
+        picked = c .in-Some-pick .ensures tt;
+        boxed = e .1;
+        fresh = not-so (e .2 .1);
+        looked = e .3;
+      },
+    )
