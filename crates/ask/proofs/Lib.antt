@@ -1,5 +1,2 @@
-pub mod Singles
+pub mod Writings
 pub mod Starts
-pub mod Opened
-pub mod Rises
-pub mod Descents

@@ -1,42 +1,26 @@
--- Propagated sets are small, and sets that are trimmed first propagate to the same.
-use mathlib.Core.Path.{_≡_, refl, sym, ap, subst, _∙_}
-use mathlib.Core.List.{List}
-use mathlib.Core.List.{[], _∷_}
+-- Trimmed sets have few values, and a trial on them is one on the sets that they come from.
+use mathlib.Core.Path.{_≡_, sym, ap, subst, _∙_}
+use mathlib.Core.List.{List, [], _∷_}
 use mathlib.Core.Logic.{_⊎_, inl, inr}
-use Prim.Native.Nat.{ℕ, zero, suc, _+_, _%_, _^_, _<_, _≤_}
-use native.Mathlib.Omega.{arith}
+use Prim.Native.Nat.{ℕ, suc, _+_, _%_, _^_, _<_, _≤_}
 use native.Mathlib.Nat.{mod-lt, mod-mod}
+use native.Mathlib.Omega.{arith}
 use lib.Count.{ones, ones-le}
+use lib.ListN.{length, getD}
 use Rattle.std.specs.declared.option.Option.{Option}
 use Rattle.std.specs.shelf.Lists.{sum}
+use Rattle.std.proofs.shelf.Bits.{pow-pos}
 use Rattle.std.proofs.shelf.Sums.{sumBy-cons}
 use Rattle.std.proofs.shelf.Tests.{cases-lt}
-use Rattle.values.specs.Members.{In}
+use Rattle.book.specs.Contents.{Contents}
 use Rattle.boxes.specs.declared.ValueBox.{ValueBox}
+use Rattle.values.specs.Members.{In}
+use Rattle.propagate.specs.Sets.{Sets, setsOf}
+use Rattle.propagate.specs.Propagation.{Largest, LeavesNone}
+use Rattle.propagate.specs.Steps.{Trimmed}
 use Rattle.store.specs.Meaning.{Meaning}
 use Rattle.trail.specs.Trails.{total}
 use Rattle.trials.specs.Trials.{Verdict, Narrows, Branches, Trial, spent, emptied, settled, seen, left, right, both}
-use lib.Pow.{pow-mono}
-use lib.ListN.{length, getD}
-use Rattle.std.proofs.shelf.Bits.{pow-pos}
-use Rattle.book.specs.Contents.{Contents, Valid}
-use Rattle.book.specs.Books.{contents}
-use Rattle.book.specs.declared.book.Book.{Book}
-use Rattle.propagate.specs.Sets.{setsOf}
-use Rattle.propagate.specs.Propagation.{Propagated, Largest, LeavesNone}
-use Rattle.propagate.specs.Steps.{Trimmed}
-use Rattle.propagate.specs.Sets.{Sets}
-use Rattle.propagate.proofs.Books.{valid, size-most}
-
-pub small-set : (b : Book) (array : List ℕ) (x : ℕ) → x < length (contents b .sizes) → setsOf (contents b) array x < 2 ^ 32
-small-set b array x l =
-    let k = getD (contents b .sizes) x 0 in
-    let s = size-most (contents b) (valid b) x l in
-    let most : 2 ^ k ≤ 2 ^ 32 = pow-mono (s .1) in
-    omega (arith, mod-lt (getD array x 0) (pow-pos k), most)
-
-pub small-next : (b : Book) (start end : List ℕ) → Propagated (contents b) start end → (x : ℕ) → x < length (contents b .sizes) → getD end x 0 < 2 ^ 32
-small-next b start end p x l = subst (λ n. n < 2 ^ 32) (sym (p .exact x l)) (small-set b end x l)
 
 -- no more values than the sizes together
 pub total-most : (sizes b : List ℕ) → ((x : ℕ) → x < length sizes → ones (getD b x 0) ≤ getD sizes x 0) → total (length sizes) b ≤ sum sizes

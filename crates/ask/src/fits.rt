@@ -4,7 +4,7 @@ ghost use Prim.Native.Nat.{ℕ, _<_, _≤_};
 ghost use lib.ListN.{length, getD, take};
 ghost use Rattle.book.specs.Books.{contents};
 ghost use Rattle.trials.specs.Picks.{Single};
-ghost use Rattle.ask.specs.Looks.{AllOne};
+ghost use Rattle.branching.specs.Looks.{AllOne};
 use book::Book;
 use propagate::sizes_of;
 use values::lowest;

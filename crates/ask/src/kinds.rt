@@ -1,5 +1,4 @@
-// How an ask and its trials end.
-use propagate::ValueSets;
+// How an ask ends.
 
 /// The answer of an ask.
 #[derive(Clone, Copy)]
@@ -10,17 +9,6 @@ pub enum Answer {
     None,
     /// As many trials as the budget has were made, and one more was due.
     Stopped,
-}
-
-/// What a trial is once its sets are propagated and their box is looked for.
-#[derive(Clone, Copy)]
-pub enum Look {
-    /// Some option has no value left, or the store has seen the box.
-    Refuted,
-    /// Each option has one value in these sets.
-    Settled(ValueSets),
-    /// It branches, with these sets, on this option and value.
-    Open(ValueSets, usize, u8),
 }
 
 /// An answer, and beside it how many trials were begun.

@@ -7,9 +7,9 @@ use Rattle.std.specs.declared.option.Option.the-variants.{Some}
 use Rattle.book.specs.Books.{contents}
 use Rattle.stack.specs.Views.{on, room}
 use Rattle.trials.specs.Trials.{Trial, stopped, found, spent, settled}
-use Rattle.ask.specs.Frames.{frames, Tried}
-use Rattle.ask.proofs.Opened.{paired-none, frames-none}
-use Rattle.ask.proofs.Rises.{leads-start, leads-over, leads-on, leads-out, leads-left, refuted-at-once}
+use Rattle.branching.specs.Frames.{frames, Tried}
+use Rattle.branching.proofs.Opened.{paired-none, frames-none}
+use Rattle.branching.proofs.Rises.{leads-start, leads-over, leads-on, leads-out, leads-left, refuted-at-once}
 use Rattle.ask.proofs.asking.search.Needs as need
 
 pub trials-holds : need.trials-holds

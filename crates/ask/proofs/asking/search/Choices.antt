@@ -3,7 +3,7 @@ use Prim.Native.Nat.{_≤_, _-_}
 use Rattle.std.specs.declared.option.Option.the-variants.{Some}
 use Rattle.book.specs.Books.{contents}
 use Rattle.stack.specs.Views.{on, room}
-use Rattle.ask.specs.Frames.{frames, Paired, Leads, Tried}
+use Rattle.branching.specs.Frames.{frames, Paired, Leads, Tried}
 use Rattle.ask.proofs.asking.search.Given as given
 
 abbrev pub Inv-trials : given.InvT-trials

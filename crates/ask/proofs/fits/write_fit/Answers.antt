@@ -5,7 +5,7 @@ use borrow.Author.Needs.{needs}
 use lib.ListN.{length, getD}
 use Rattle.book.specs.Books.{contents}
 use Rattle.values.proofs.Digits.{some-from-ones}
-use Rattle.ask.proofs.Singles.{writing-none, writing-more, written}
+use Rattle.ask.proofs.Writings.{writing-none, writing-more, written}
 use Rattle.ask.proofs.fits.write_fit.Needs as need
 
 pub loop-x-holds : need.loop-x-holds

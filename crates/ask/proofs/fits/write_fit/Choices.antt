@@ -1,4 +1,4 @@
-use Rattle.ask.proofs.Singles.{Writing}
+use Rattle.ask.proofs.Writings.{Writing}
 use Rattle.ask.proofs.fits.write_fit.Given as given
 
 abbrev pub Inv-loop-x : given.InvT-loop-x

@@ -1,0 +1,5 @@
+pub mod Singles
+pub mod Smalls
+pub mod Opened
+pub mod Rises
+pub mod Descents
