@@ -46,36 +46,35 @@ pub not-over : {v : Verdict} → Over v → refuted ≡ v → ⊥
 not-over o e = subst Over (sym e) o
 
 module _ (c : Contents) (array : List ℕ) where
-  pub not-emptied : {next : List ℕ} → LeavesNone c (setsOf c array) → Narrows c array next → ⊥
+  not-emptied : {next : List ℕ} → LeavesNone c (setsOf c array) → Narrows c array next → ⊥
   not-emptied {next} e p = never-none c array next (p .propagated) e
 
   module _ {next other : List ℕ} (p : Narrows c array next) (q : Narrows c array other) where
-    pub one-next : next ≡ other
+    one-next : next ≡ other
     one-next = same-array c array next (p .propagated) other (q .propagated) (p .long ∙ sym (q .long))
 
-    pub settled-once : {a b : List ℕ} → Single c next a → Single c other b → a ≡ b
+    settled-once : {a b : List ℕ} → Single c next a → Single c other b → a ≡ b
     settled-once {a} {b} s t = one-single c other a b (subst (λ n. Single c n a) one-next s) t
 
-    pub not-settled : {values : List ℕ} {x v : ℕ} → Single c next values → Picked c other x v → ⊥
+    not-settled : {values : List ℕ} {x v : ℕ} → Single c next values → Picked c other x v → ⊥
     not-settled {values} {x} {v} s t = none-to-pick c other values x v (subst (λ n. Single c n values) one-next s) t
 
-    module _ {x y v w : ℕ} (s : Picked c next x v) (t : Picked c other y w) where
-      pub one-left : cutTo other y w ≡ cutTo next x v
-      one-left = let moved = subst (λ n. Picked c n x v) one-next s in
-          ap₂ (cutTo other) (one-option c other y x w v t moved) (one-pick c other y x w v t moved) ∙ ap (λ n. cutTo n x v) (sym one-next)
-
-      pub one-right : cutFrom other y w ≡ cutFrom next x v
-      one-right = let moved = subst (λ n. Picked c n x v) one-next s in
-          ap₂ (cutFrom other) (one-option c other y x w v t moved) (one-pick c other y x w v t moved) ∙ ap (λ n. cutFrom n x v) (sym one-next)
+    -- either half is the same
+    one-half : {x y v w : ℕ} → Picked c next x v → Picked c other y w → (half : List ℕ → ℕ → ℕ → List ℕ) → half other y w ≡ half next x v
+    one-half {x} {y} {v} {w} s t half =
+        let moved = subst (λ n. Picked c n x v) one-next s in
+        ap₂ (half other) (one-option c other y x w v t moved) (one-pick c other y x w v t moved) ∙ ap (λ n. half n x v) (sym one-next)
 
 -- ---- the tree of a trial that branches
 
+-- the first half ends the ask
 pub record LeftOf (c : Contents) (next : List ℕ) (x v : ℕ) (w : Verdict) (k : ℕ) : Type 0 where
   pub count : ℕ
   pub is : k ≡ count + 1
   pub first : Tree c (cutTo next x v) w count
   pub over : Over w
 
+-- the first half is refuted
 pub record RightOf (c : Contents) (next : List ℕ) (x v : ℕ) (w : Verdict) (k : ℕ) : Type 0 where
   pub count : ℕ
   pub more : ℕ
@@ -86,13 +85,13 @@ pub record RightOf (c : Contents) (next : List ℕ) (x v : ℕ) (w : Verdict) (k
 pub branched : {c : Contents} {array : List ℕ} {w : Verdict} {k : ℕ} → Tree c array w k → {next : List ℕ} {x v : ℕ} → Narrows c array next → Picked c next x v → LeftOf c next x v w k ⊎ RightOf c next x v w k
 branched {c} {array} (t-emptied e) p q = absurd (not-emptied c array e p)
 branched {c} {array} (t-settled p′ s) p q = absurd (not-settled c array p′ p s q)
-branched {c} {array} {w} (t-left {k = k} p′ q′ t o) p q = inl record { count = k; is = refl; first = subst (λ a. Tree c a w k) (one-left c array p p′ q q′) t; over = o }
+branched {c} {array} {w} (t-left {k = k} p′ q′ t o) p q = inl record { count = k; is = refl; first = subst (λ a. Tree c a w k) (one-half c array p p′ q q′ cutTo) t; over = o }
 branched {c} {array} {w} (t-right {k = k} {j = j} p′ q′ t u) p q = inr record {
   count = k;
   more = j;
   is = refl;
-  first = subst (λ a. Tree c a refuted k) (one-left c array p p′ q q′) t;
-  second = subst (λ a. Tree c a w j) (one-right c array p p′ q q′) u;
+  first = subst (λ a. Tree c a refuted k) (one-half c array p p′ q q′ cutTo) t;
+  second = subst (λ a. Tree c a w j) (one-half c array p p′ q q′ cutFrom) u;
 }
 
 -- ---- one tree

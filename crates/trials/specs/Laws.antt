@@ -37,7 +37,7 @@ Plain-finds-if-any =
     (c : Contents) → Valid c → (array : List ℕ) → length array ≡ 24 → (v : Verdict) (n : ℕ) → Plain c array v n
     → (HasFit c array → (values : List ℕ) × (v ≡ found values)) × (((values : List ℕ) × (v ≡ found values)) → HasFit c array)
 
--- Nothing meets the box that is a fit of the book.
+-- No fit of the book meets the box.
 abbrev pub Dead : Contents → ValueBox → Type 0
 Dead c b = (values : List ℕ) → Fit c values → Meets (b .sets) values → ⊥
 
