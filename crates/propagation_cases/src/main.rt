@@ -15,5 +15,5 @@ fn main(rt: LibcRuntime) -> io::Result<()> {
     fixed::sample_book(&rt, &mut rows)?;
     fixed::five_options(&rt, &mut rows)?;
     fixed::three_options(&rt, &mut rows)?;
-    random::random_books(&rt, &mut rows, 600)
+    random::random_books(&rt, &mut rows, 2000)
 }

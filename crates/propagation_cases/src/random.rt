@@ -21,6 +21,7 @@ use values::size;
 struct Totals {
     books: usize,
     narrowed: usize,
+    cut: usize,
     emptied: usize,
     agree: usize,
     boxes: usize,
@@ -38,6 +39,7 @@ impl Totals {
         Totals {
             books: 0,
             narrowed: 0,
+            cut: 0,
             emptied: 0,
             agree: 0,
             boxes: 0,
@@ -56,6 +58,9 @@ impl Totals {
         match said.outcome {
             Outcome::Narrowed => self.narrowed = self.narrowed.wrapping_add(1),
             Outcome::Emptied => self.emptied = self.emptied.wrapping_add(1),
+        }
+        if trimmed(model, &said.sets) != trimmed(model, start) {
+            self.cut = self.cut.wrapping_add(1);
         }
         if as_defined(model, start, said) {
             self.agree = self.agree.wrapping_add(1);
@@ -145,13 +150,14 @@ fn report(rt: &LibcRuntime, totals: &Totals) -> io::Result<()> {
     let Totals {
         books,
         narrowed,
+        cut,
         emptied,
         agree,
         ..
     } = *totals;
     println!(
         rt,
-        "random books: {books}, {narrowed} narrowed, {emptied} emptied, {agree} agree"
+        "random books: {books}, {narrowed} narrowed (to smaller sets: {cut}), {emptied} emptied, {agree} agree"
     )?;
     let Totals {
         boxes,
