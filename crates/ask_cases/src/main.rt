@@ -10,7 +10,8 @@ use crate::comparing::Tally;
 use crate::comparing::examine;
 use crate::fixed::Asks;
 use crate::fixed::ask_file;
-use crate::random::random_plan;
+use crate::random::larger_plan;
+use crate::random::small_plan;
 use book::Row;
 use made_books::Dice;
 use made_books::Plan;
@@ -61,14 +62,13 @@ fn crowds(rt: &LibcRuntime, rows: &mut [Row]) -> io::Result<()> {
     Ok(())
 }
 
-fn total(rt: &LibcRuntime, books: usize, tally: &Tally) -> io::Result<()> {
+fn total(rt: &LibcRuntime, tally: &Tally) -> io::Result<()> {
     let asks = tally.asks;
     let fits = tally.fits;
     let nones = tally.nones;
     let stops = tally.stops;
     let differences = tally.differences;
     let [blank, ring, slot, forgetful] = tally.trials;
-    println!(rt, "{books} books at random")?;
     println!(
         rt,
         "  {asks} asks: {fits} fit, {nones} none, {stops} stopped; {differences} differences"
@@ -79,20 +79,46 @@ fn total(rt: &LibcRuntime, books: usize, tally: &Tally) -> io::Result<()> {
     )
 }
 
+/// Examines the book of a plan, and tells the seed where something differs.
+fn try_plan(
+    rt: &LibcRuntime,
+    rows: &mut [Row],
+    seed: usize,
+    plan: &Plan,
+    dice: &mut Dice,
+    tally: &mut Tally,
+) -> io::Result<()> {
+    let before = tally.differences;
+    let file = build(rt.alloc(), plan)?;
+    examine(&file, rows, plan, dice, tally);
+    if tally.differences != before {
+        println!(rt, "  DIFFERENT at seed {seed}")?;
+    }
+    Ok(())
+}
+
 /// Small books, one for each seed.
 fn small_books(rt: &LibcRuntime, rows: &mut [Row]) -> io::Result<()> {
+    println!(rt, "3000 books at random of up to 4 options")?;
     let mut tally = Tally::new();
     for seed in 0..3000usize {
         let mut dice = Dice::new(seed.wrapping_mul(0x9e3779b97f4a7c15));
-        let plan = random_plan(rt.alloc(), &mut dice)?;
-        let file = build(rt.alloc(), &plan)?;
-        let before = tally.differences;
-        examine(&file, rows, &plan, &mut dice, &mut tally);
-        if tally.differences != before {
-            println!(rt, "  DIFFERENT at seed {seed}")?;
-        }
+        let plan = small_plan(rt.alloc(), &mut dice)?;
+        try_plan(rt, rows, seed, &plan, &mut dice, &mut tally)?;
     }
-    total(rt, 3000, &tally)
+    total(rt, &tally)
+}
+
+/// Books of 6 options, one for each seed.
+fn larger_books(rt: &LibcRuntime, rows: &mut [Row]) -> io::Result<()> {
+    println!(rt, "1000 books at random of 6 options")?;
+    let mut tally = Tally::new();
+    for seed in 0..1000usize {
+        let mut dice = Dice::new(seed.wrapping_mul(0x9e3779b97f4a7c15));
+        let plan = larger_plan(rt.alloc(), &mut dice)?;
+        try_plan(rt, rows, seed, &plan, &mut dice, &mut tally)?;
+    }
+    total(rt, &tally)
 }
 
 fn main(rt: LibcRuntime) -> io::Result<()> {
@@ -101,5 +127,6 @@ fn main(rt: LibcRuntime) -> io::Result<()> {
     barred(&rt, &mut rows)?;
     sample(&rt, &mut rows)?;
     crowds(&rt, &mut rows)?;
-    small_books(&rt, &mut rows)
+    small_books(&rt, &mut rows)?;
+    larger_books(&rt, &mut rows)
 }

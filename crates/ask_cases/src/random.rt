@@ -3,6 +3,7 @@ use made_books::Dice;
 use made_books::Plan;
 use made_books::Rule;
 use made_books::Table;
+use made_books::pair;
 use propagate::ValueSets;
 use std::alloc::AllocError;
 use std::alloc::Global;
@@ -32,15 +33,32 @@ fn random_table(dice: &mut Dice, options: usize) -> Table {
 }
 
 /// 2 to 4 options of 1 to 3 values, and up to 4 tables on up to 3 options each.
-pub fn random_plan(heap: Global, dice: &mut Dice) -> Result<Plan, AllocError> {
+pub fn small_plan(heap: Global, dice: &mut Dice) -> Result<Plan, AllocError> {
     let options = dice.below(3).wrapping_add(2);
     let mut plan = Plan::new(heap, options, 1);
     for x in 0..24 {
         plan.sizes[x] = dice.below(3).wrapping_add(1);
     }
-    for _ in 0..dice.below(5) {
+    let tables = dice.below(5);
+    for _ in 0..tables {
         let table = random_table(dice, options);
         plan.add(table)?;
+    }
+    Ok(plan)
+}
+
+/// 6 options of 3 values, and 5 to 12 tables on two options each, with two of three rows or so.
+pub fn larger_plan(heap: Global, dice: &mut Dice) -> Result<Plan, AllocError> {
+    let mut plan = Plan::new(heap, 6, 3);
+    let tables = dice.below(8).wrapping_add(5);
+    for _ in 0..tables {
+        let first = dice.below(5);
+        let second = dice
+            .below(5usize.saturating_sub(first))
+            .wrapping_add(first)
+            .wrapping_add(1);
+        let rows = dice.word() | (dice.word() & dice.word());
+        plan.add(pair(first, second, Rule::Rows(rows)))?;
     }
     Ok(plan)
 }
