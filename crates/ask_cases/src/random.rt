@@ -53,8 +53,7 @@ pub fn larger_plan(heap: Global, dice: &mut Dice) -> Result<Plan, AllocError> {
     let tables = dice.below(8).wrapping_add(5);
     for _ in 0..tables {
         let first = dice.below(5);
-        let second = dice
-            .below(5usize.saturating_sub(first))
+        let second = dice.below(5usize.saturating_sub(first))
             .wrapping_add(first)
             .wrapping_add(1);
         let rows = dice.word() | (dice.word() & dice.word());

@@ -12,7 +12,6 @@ pub use files::build;
 pub use plans::Plan;
 pub use plans::Rule;
 pub use plans::Table;
-pub use shapes::crowded;
 pub use shapes::pair;
 pub use shapes::pigeons;
 pub use shapes::three;

@@ -1,5 +1,4 @@
 // Plans of some shapes.
-use crate::dice::Dice;
 use crate::plans::Plan;
 use crate::plans::Rule;
 use crate::plans::Table;
@@ -33,24 +32,6 @@ pub fn pigeons(heap: Global, options: usize, rule: Rule) -> Result<Plan, AllocEr
                 plan.add(pair(x, y, rule))?;
             }
         }
-    }
-    Ok(plan)
-}
-
-/// 24 options of four values, and so many tables on three options each, with five rows of eight.
-pub fn crowded(heap: Global, seed: usize, tables: usize) -> Result<Plan, AllocError> {
-    let mut dice = Dice::new(seed);
-    let mut plan = Plan::new(heap, 24, 4);
-    for _ in 0..tables {
-        let first = dice.below(22);
-        let second = first
-            .wrapping_add(1)
-            .wrapping_add(dice.below(22usize.saturating_sub(first)));
-        let third = second
-            .wrapping_add(1)
-            .wrapping_add(dice.below(23usize.saturating_sub(second)));
-        let rows = dice.word() | (dice.word() & dice.word() & dice.word());
-        plan.add(three(first, second, third, Rule::Rows(rows)))?;
     }
     Ok(plan)
 }
