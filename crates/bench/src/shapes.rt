@@ -34,11 +34,11 @@ pub fn parities(heap: Global) -> Result<Plan, AllocError> {
     Ok(plan)
 }
 
-/// 24 options of four values, and 48 tables on three options each, with about half of the rows.
+/// 24 options of four values, and 40 tables on three options each, with about half of the rows.
 pub fn crowded(heap: Global, seed: usize) -> Result<Plan, AllocError> {
     let mut dice = Dice::new(seed);
     let mut plan = Plan::new(heap, 24, 4);
-    for _ in 0..48 {
+    for _ in 0..40 {
         let first = dice.below(22);
         let second = dice.below(22usize.saturating_sub(first))
             .wrapping_add(first)
