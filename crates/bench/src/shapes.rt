@@ -3,6 +3,7 @@ use made_books::Dice;
 use made_books::Plan;
 use made_books::Rule;
 use made_books::Table;
+use made_books::pair;
 use made_books::three;
 use std::alloc::AllocError;
 use std::alloc::Global;
@@ -48,6 +49,15 @@ pub fn crowded(heap: Global, seed: usize) -> Result<Plan, AllocError> {
             .wrapping_add(1);
         let rows = dice.word();
         plan.add(three(first, second, third, Rule::Rows(rows)))?;
+    }
+    Ok(plan)
+}
+
+/// 24 options of 32 values, and 16 tables on two options each with the 512 rows whose sum is even: as many rows as a book may have.
+pub fn even_pairs(heap: Global) -> Result<Plan, AllocError> {
+    let mut plan = Plan::new(heap, 24, 32);
+    for i in 0..16usize {
+        plan.add(pair(i, i + 1, Rule::Even))?;
     }
     Ok(plan)
 }
