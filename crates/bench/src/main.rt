@@ -107,7 +107,10 @@ fn measure_rows<'a>(rt: &LibcRuntime, file: &'a [u8], rows: &'a mut [Row]) -> io
         }
     }
     let each = start.elapsed(rt)?.as_secs_f64() * 1000000000.0 / 819200.0;
-    println!(rt, "  propagated 100 times, {narrowed} times with a value left for each option")?;
+    println!(
+        rt,
+        "  propagated 100 times, {narrowed} times with a value left for each option"
+    )?;
     eprintln!(rt, "  {each:.2} nanoseconds a row")
 }
 
