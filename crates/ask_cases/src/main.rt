@@ -79,7 +79,7 @@ fn total(rt: &LibcRuntime, tally: &Tally) -> io::Result<()> {
     )
 }
 
-/// Examines the book of a plan, and tells the seed where something differs.
+/// Examines the book of a plan, and tells its seed where something differs.
 fn try_plan(
     rt: &LibcRuntime,
     rows: &mut [Row],

@@ -1,4 +1,4 @@
-// Numbers that look random and depend on the seed alone.
+// Numbers that look random and depend on a seed alone.
 
 /// A row of numbers.
 #[derive(Drop)]
