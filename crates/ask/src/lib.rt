@@ -1,4 +1,6 @@
 // The ask: is there a fit inside some starting sets?
+#![tactic(auto)]
+
 mod asking;
 mod fits;
 mod kinds;

@@ -1,5 +1,7 @@
 // The ask on whole books: some whose answers are known, books of which no option can have a value of its own, and small books
 // at random, where every answer is compared with what a look at every choice of values finds.
+#![tactic(auto)]
+
 mod comparing;
 mod fixed;
 mod random;

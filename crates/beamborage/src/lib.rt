@@ -1,4 +1,5 @@
 // Beamborage as its users see it: the calls that they make and the types that these take and give, and nothing below them.
+#![tactic(auto)]
 
 // What is refused, and by which question.
 pub use questions::Question;

@@ -1,5 +1,7 @@
 // How many trials the ask makes on some books with each store, and what a pass over rows costs: counts to standard output, times to
 // standard error.
+#![tactic(auto)]
+
 mod shapes;
 
 use crate::shapes::{crowded, even_pairs, parities};

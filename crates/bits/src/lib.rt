@@ -1,4 +1,6 @@
 // Fields of bits, the most significant bit first.
+#![tactic(auto)]
+
 mod cursor;
 mod pen;
 

@@ -1,4 +1,6 @@
 // Books: options with values, and tables of allowed rows, read from a packed file.
+#![tactic(auto)]
+
 mod book;
 mod reader;
 

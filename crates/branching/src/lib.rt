@@ -1,4 +1,6 @@
 // One trial of an ask: what it is at first, the way down into its branch, and the way up when it is refuted.
+#![tactic(auto)]
+
 mod climbing;
 mod kinds;
 mod looking;

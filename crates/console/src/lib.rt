@@ -1,4 +1,5 @@
 // The line console: what a line that is read asks for, and every line that is printed.
+#![tactic(auto)]
 
 mod command;
 mod numbers;

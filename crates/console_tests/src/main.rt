@@ -1,4 +1,6 @@
 // Shows what lines ask for, of the right form and of wrong ones, and prints a line of every kind.
+#![tactic(auto)]
+
 ghost use Rattle.console_tests.specs.Conversation.{Reads, Prints};
 
 use console::Reply;

@@ -1,5 +1,7 @@
 // Files of random books, whole and damaged at random: each is read by the library and by a second reading, and the two are
 // compared.
+#![tactic(auto)]
+
 mod harm;
 
 use crate::harm::{HARMS, harmed, numbered};

@@ -1,4 +1,6 @@
 // The desk: what a command does to the sheet of two people, and what is replied.
+#![tactic(auto)]
+
 mod commands;
 mod laws;
 mod replies;

@@ -1,4 +1,6 @@
 // Drafts of books, and writing books as files.
+#![tactic(auto)]
+
 ghost use Rattle.draft.specs.Trip.{There, Back};
 
 mod again;

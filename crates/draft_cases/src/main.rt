@@ -1,4 +1,6 @@
 // Writes drafts at their limits, and says what becomes of each.
+#![tactic(auto)]
+
 use book::{Book, Fault, Row};
 use draft::Draft;
 use made_drafts::sample;

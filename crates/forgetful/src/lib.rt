@@ -1,4 +1,6 @@
 // A store written from the trait alone, for the programs that try what holds of every store.
+#![tactic(auto)]
+
 ghost use Rattle.std.specs.Prelude.{◌≡◌, Some, Decides};
 ghost use Rattle.forgetful.specs.Forgetful.{forgetful};
 

@@ -1,4 +1,6 @@
 // Tells what a book file holds, or where it is refused, and why.
+#![tactic(auto)]
+
 use book::{Book, Row, TableIndex};
 use std::fs::File;
 use std::io;

@@ -1,5 +1,7 @@
 // Books made by rule for the programs that try the ask: their plans, their files, numbers to make them at random, fits found by
 // brute force, and asks.
+#![tactic(auto)]
+
 mod asks;
 mod brute;
 mod dice;

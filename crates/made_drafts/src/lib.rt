@@ -1,4 +1,6 @@
 // Drafts for the programs that try the writer.
+#![tactic(auto)]
+
 use draft::Draft;
 
 /// The sample book: a gate of three values, a divider and a stand of two each; one table lists which gates go with which

@@ -1,4 +1,6 @@
 // Files made field by field, right or wrong.
+#![tactic(auto)]
+
 mod builder;
 mod counts;
 

@@ -1,4 +1,6 @@
 // Issuing: an open sheet and a fit of what stands on it become an order.
+#![tactic(auto)]
+
 mod issued;
 mod issuing;
 mod singles;

@@ -1,4 +1,6 @@
 // Propagation: from given value sets to the largest inside them in which every value has support.
+#![tactic(auto)]
+
 mod fixpoint;
 mod laws;
 mod layout;

@@ -1,5 +1,7 @@
 // Propagation, universal tables and boxes on whole books: some with known answers, and many random small ones, of which each
 // answer is compared with the definitions read directly.
+#![tactic(auto)]
+
 mod builder;
 mod chance;
 mod direct;

@@ -1,4 +1,5 @@
 // The questions that calls ask, the fields of a book file, and the fault that a refused reading tells.
+#![tactic(auto)]
 
 mod question;
 

@@ -1,4 +1,6 @@
 // Reading a whole book from any source of fields.
+#![tactic(auto)]
+
 ghost use Rattle.std.specs.Prelude.{◌≡◌, ◌≤◌, length, IfOk};
 ghost use Rattle.source.specs.Readings.{told};
 ghost use Rattle.grammar.specs.Grammar.{counts, tail, book};
@@ -14,8 +16,8 @@ use tables::tables;
 
 /// The edition, and the numbers of options and tables.
 fn counts<S: Source>(source: &mut S) -> Result<(usize, usize), Fault>
-    ensures value { told (λ v. v) result (place source.new) ≡ counts (gives source.old) (place source.old) }
-    ensures same { gives source.new ≡ gives source.old }
+    ensures value { told (λ v. v) result (S.place source.new) ≡ counts (S.gives source.old) (S.place source.old) }
+    ensures same { S.gives source.new ≡ S.gives source.old }
     ensures range { IfOk result (λ v. (v.0 ≤ 24) × (v.1 ≤ 48)) }
 {
     within(source, Field::Edition, 1, 2)?;
@@ -26,8 +28,8 @@ fn counts<S: Source>(source: &mut S) -> Result<(usize, usize), Fault>
 
 /// The filling bits, and as many name bytes as `out` has places, behind which nothing stands.
 fn tail<S: Source>(source: &mut S, out: &mut [u8]) -> Result<usize, Fault>
-    ensures value { told (λ _. out.new) result (place source.new) ≡ tail (gives source.old) (length out.old) (place source.old) }
-    ensures same { gives source.new ≡ gives source.old }
+    ensures value { told (λ _. out.new) result (S.place source.new) ≡ tail (S.gives source.old) (length out.old) (S.place source.old) }
+    ensures same { S.gives source.new ≡ S.gives source.old }
 {
     within(source, Field::Filling, 0, 1)?;
     letters(source, out)?;
@@ -42,8 +44,8 @@ pub fn read_from<S: Source>(
 ) -> Result<Index, Fault>
     requires room { 8192 ≤ length out.old }
     requires places { 384 ≤ length names.old }
-    ensures value { told (contents_of out.new names.new) result (place source.new) ≡ book (gives source.old) (place source.old) }
-    ensures same { gives source.new ≡ gives source.old }
+    ensures value { told (contents_of out.new names.new) result (S.place source.new) ≡ book (S.gives source.old) (S.place source.old) }
+    ensures same { S.gives source.new ≡ S.gives source.old }
     ensures shape { IfOk result (Indexed out.new) }
 {
     let (options, count) = counts(source)?;

@@ -9,8 +9,8 @@ use source::{Source, within};
 
 /// The size of an option, and the length of its name.
 fn shape<S: Source>(source: &mut S, option: usize) -> Result<(usize, usize), Fault>
-    ensures value { told (λ v. v) result (place source.new) ≡ shape (gives source.old) option (place source.old) }
-    ensures same { gives source.new ≡ gives source.old }
+    ensures value { told (λ v. v) result (S.place source.new) ≡ shape (S.gives source.old) option (S.place source.old) }
+    ensures same { S.gives source.new ≡ S.gives source.old }
     ensures range { IfOk result (λ v. (v.0 ≤ 32) × (v.1 ≤ 16)) }
 {
     let size = within(source, Field::Size(option), 1, 33)?;
@@ -28,8 +28,8 @@ pub fn shapes<S: Source>(
     requires few { count ≤ 24 }
     requires room { count ≤ length sizes.old }
     requires places { count ≤ length lengths.old }
-    ensures value { told (λ _. (take count sizes.new, take count lengths.new)) result (place source.new) ≡ shapes (gives source.old) count (place source.old) }
-    ensures same { gives source.new ≡ gives source.old }
+    ensures value { told (λ _. (take count sizes.new, take count lengths.new)) result (S.place source.new) ≡ shapes (S.gives source.old) count (S.place source.old) }
+    ensures same { S.gives source.new ≡ S.gives source.old }
     ensures total { IfOk result (λ n. (n ≡ sum (take count lengths.new)) × (n ≤ 384)) }
 {
     let mut total = 0;
@@ -44,8 +44,8 @@ pub fn shapes<S: Source>(
 
 /// As many name bytes as `out` has places.
 pub fn letters<S: Source>(source: &mut S, out: &mut [u8]) -> Result<usize, Fault>
-    ensures value { told (λ _. out.new) result (place source.new) ≡ letters (gives source.old) (length out.old) (place source.old) }
-    ensures same { gives source.new ≡ gives source.old }
+    ensures value { told (λ _. out.new) result (S.place source.new) ≡ letters (S.gives source.old) (length out.old) (S.place source.old) }
+    ensures same { S.gives source.new ≡ S.gives source.old }
 {
     for k in 0..out.len() {
         let byte = within(source, Field::NameByte(k), 0x21, 0x7f)?;

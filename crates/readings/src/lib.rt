@@ -1,4 +1,6 @@
 // Two readings of a file, to compare: the library's, and one that is written apart from it.
+#![tactic(auto)]
+
 mod apart;
 mod ours;
 

@@ -1,4 +1,6 @@
 // From value sets to the box that stands for them.
+#![tactic(auto)]
+
 mod boxing;
 mod laws;
 mod tables;

@@ -1,4 +1,6 @@
 // Builds the sample book from a draft, writes it, reads it back and writes it again; then shows a draft that is refused.
+#![tactic(auto)]
+
 use book::{Book, Fault, Row};
 use draft::Draft;
 use made_drafts::sample;

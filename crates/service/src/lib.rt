@@ -1,4 +1,6 @@
 // The service of two people and one sheet: it reads a book, and then answers each line as it comes.
+#![tactic(auto)]
+
 mod lines;
 
 use crate::lines::Line;

@@ -1,6 +1,8 @@
 // The promise of the shared sheet, tried: random books, each with a sheet over every store, and random calls on it. What stands
 // and each refusal are compared with a model, each answer with brute force and with the plain ask. The stores are kept from book to
 // book, so that a store that was not emptied when a sheet is opened would show.
+#![tactic(auto)]
+
 mod calls;
 mod comparing;
 mod obeying;

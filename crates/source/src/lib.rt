@@ -1,4 +1,6 @@
 // What the fields of a book are read from: any source, and a file as one.
+#![tactic(auto)]
+
 ghost use Rattle.std.specs.Prelude.{◌≡◌, ℕ, ◌<◌, ◌≤◌, IfOk, Result};
 ghost use Rattle.fields.specs.declared.field.Field.{Field};
 ghost use Rattle.fields.specs.declared.field.Fault.{Fault};
@@ -33,8 +35,8 @@ pub fn within<S: Source>(
     low: usize,
     high: usize,
 ) -> Result<usize, Fault>
-    ensures value { told (λ v. v) result (place source.new) ≡ within (gives source.old) field low high (place source.old) }
-    ensures same { gives source.new ≡ gives source.old }
+    ensures value { told (λ v. v) result (S.place source.new) ≡ within (S.gives source.old) field low high (S.place source.old) }
+    ensures same { S.gives source.new ≡ S.gives source.old }
     ensures range { IfOk result (λ v. (low ≤ v) × (v < high)) }
 {
     let bit = source.at();

@@ -1,4 +1,6 @@
 // Stores of refuted boxes: what a store is, and three of them.
+#![tactic(auto)]
+
 mod blank;
 mod keys;
 mod ring;

@@ -1,5 +1,7 @@
 // Examples of the stores, and of one written from the trait alone. Each example gives numbers: how many of some boxes are held, or 1
 // where a box is held and 0 where it is not.
+#![tactic(auto)]
+
 mod rings;
 mod samples;
 mod slices;

@@ -1,4 +1,6 @@
 // Reading the tables.
+#![tactic(auto)]
+
 ghost use Rattle.std.specs.Prelude.{◌≡◌, ℕ, ◌+◌, ◌-◌, ◌<◌, ◌≤◌, ◌++◌, map, length, take, IfOk, OnOk, slice_index};
 ghost use Rattle.std.specs.Option.{option_map};
 ghost use Rattle.std.specs.List.{AllByRecursion as All};
@@ -21,8 +23,8 @@ fn values<S: Source>(
 ) -> Result<Row, Fault>
     requires few { length scope.now ≤ 4 }
     requires known { (j : ℕ) → j < length scope.now → slice_index scope.now j < length sizes.now }
-    ensures value { told (take (length scope.now)) result (place source.new) ≡ values (gives source.old) table row sizes.now scope.now (place source.old) }
-    ensures same { gives source.new ≡ gives source.old }
+    ensures value { told (take (length scope.now)) result (S.place source.new) ≡ values (S.gives source.old) table row sizes.now scope.now (S.place source.old) }
+    ensures same { S.gives source.new ≡ S.gives source.old }
     ensures rest { IfOk result (λ vs. Padded (length scope.now) vs) }
 {
     let mut read = [0; 4];
@@ -43,8 +45,8 @@ fn scope<S: Source>(
 ) -> Result<[u8; 4], Fault>
     requires few { count ≤ 4 }
     requires small { options ≤ 24 }
-    ensures value { told (take count) result (place source.new) ≡ scope (gives source.old) table options count (place source.old) }
-    ensures same { gives source.new ≡ gives source.old }
+    ensures value { told (take count) result (S.place source.new) ≡ scope (S.gives source.old) table options count (S.place source.old) }
+    ensures same { S.gives source.new ≡ S.gives source.old }
     ensures known { IfOk result (λ xs. (j : ℕ) → j < count → slice_index xs j < options) }
 {
     let mut read = [0; 4];
@@ -81,8 +83,8 @@ fn row<S: Source>(
 ) -> Result<Row, Fault>
     requires few { length scope.now ≤ 4 }
     requires known { (j : ℕ) → j < length scope.now → slice_index scope.now j < length sizes.now }
-    ensures value { told (take (length scope.now)) result (place source.new) ≡ rowRead (gives source.old) table sizes.now scope.now (row, option_map (take (length scope.now)) last) (place source.old) }
-    ensures same { gives source.new ≡ gives source.old }
+    ensures value { told (take (length scope.now)) result (S.place source.new) ≡ rowRead (S.gives source.old) table sizes.now scope.now (row, option_map (take (length scope.now)) last) (S.place source.old) }
+    ensures same { S.gives source.new ≡ S.gives source.old }
     ensures rest { IfOk result (λ vs. Padded (length scope.now) vs) }
 {
     let bit = source.at();
@@ -111,8 +113,8 @@ fn rows<S: Source>(
     requires few { length scope.now ≤ 4 }
     requires known { (j : ℕ) → j < length scope.now → slice_index scope.now j < length sizes.now }
     requires small { first + length out.old ≤ 8192 }
-    ensures value { told (λ _. map (take (length scope.now)) out.new) result (place source.new) ≡ rows (gives source.old) table first sizes.now scope.now (length out.old) (place source.old) }
-    ensures same { gives source.new ≡ gives source.old }
+    ensures value { told (λ _. map (take (length scope.now)) out.new) result (S.place source.new) ≡ rows (S.gives source.old) table first sizes.now scope.now (length out.old) (S.place source.old) }
+    ensures same { S.gives source.new ≡ S.gives source.old }
     ensures rest { OnOk result (All (Padded (length scope.now)) out.new) }
 {
     let mut last = None;
@@ -142,8 +144,8 @@ fn heading<S: Source>(
 ) -> Result<TableIndex, Fault>
     requires few { options ≤ 24 }
     requires small { first ≤ 8192 }
-    ensures value { told (λ t. (take t.arity t.scope, t.count)) result (place source.new) ≡ heading (gives source.old) options number first (place source.old) }
-    ensures same { gives source.new ≡ gives source.old }
+    ensures value { told (λ t. (take t.arity t.scope, t.count)) result (S.place source.new) ≡ heading (S.gives source.old) options number first (S.place source.old) }
+    ensures same { S.gives source.new ≡ S.gives source.old }
     ensures shape { IfOk result (Headed options first) }
 {
     within(source, Field::Kind(number), 0, 1)?;
@@ -169,8 +171,8 @@ fn table<S: Source>(
     requires few { length sizes.now ≤ 24 }
     requires small { first ≤ 8192 }
     requires room { 8192 ≤ length out.old }
-    ensures value { told (table_of out.new) result (place source.new) ≡ table (gives source.old) sizes.now (number, first) (place source.old) }
-    ensures same { gives source.new ≡ gives source.old }
+    ensures value { told (table_of out.new) result (S.place source.new) ≡ table (S.gives source.old) sizes.now (number, first) (S.place source.old) }
+    ensures same { S.gives source.new ≡ S.gives source.old }
     ensures shape { IfOk result (Headed (length sizes.now) first) }
     ensures grown { IfOk result (λ t. take (first + t.count) out.new ≡ take first out.old ++ laid (table_of out.new t)) }
 {
@@ -199,8 +201,8 @@ pub fn tables<S: Source>(
     requires few { length sizes.now ≤ 24 }
     requires room { 8192 ≤ length out.old }
     requires places { count ≤ length read.old }
-    ensures value { told (λ _. map (table_of out.new) (take count read.new)) result (place source.new) ≡ tables (gives source.old) sizes.now count (place source.old) }
-    ensures same { gives source.new ≡ gives source.old }
+    ensures value { told (λ _. map (table_of out.new) (take count read.new)) result (S.place source.new) ≡ tables (S.gives source.old) sizes.now count (S.place source.old) }
+    ensures same { S.gives source.new ≡ S.gives source.old }
     ensures laid { IfOk result (λ n. Laid (take count read.new) out.new n) }
 {
     let mut first = 0;

@@ -1,5 +1,7 @@
 // The sample book whole, torn at every byte and with every bit turned over, and books at the bounds of the format: each is read
 // by the library and by a second reading, and the two are compared.
+#![tactic(auto)]
+
 use book::Row;
 use made_files::with_counts;
 use readings::{Finding, first, second};

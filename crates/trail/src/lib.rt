@@ -1,4 +1,6 @@
 // Open branches, and the trail by which sets are put back as they were.
+#![tactic(auto)]
+
 mod kinds;
 mod steps;
 

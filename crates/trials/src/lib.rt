@@ -1,4 +1,6 @@
 // What an ask is, and what it promises whatever store it remembers by.
+#![tactic(auto)]
+
 mod laws;
 
 pub use laws::{

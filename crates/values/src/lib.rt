@@ -1,4 +1,6 @@
 // Sets of values, a number each, in which value v is worth 2 to the power v.
+#![tactic(auto)]
+
 mod set;
 
 pub use set::{full, has, lowest, only, size, without};

@@ -1,4 +1,6 @@
 // Examples worked by hand, run through the library: each is printed with what came.
+#![tactic(auto)]
+
 mod asks;
 mod bounds;
 mod conversation;

@@ -34,8 +34,8 @@ returns-in-Settled g c =
     let i = c.trials.invariant in
     let e = c.in-Settled.ensures in
     let b = contents c.args.book.now in
-    let w = c.write-fit.ensures in
-    let values = take (length b.sizes) c.write-fit.new.fit in
+    let w = c.write_fit.ensures in
+    let values = take (length b.sizes) c.write_fit.new.fit in
     record {
       asks = subst (λ s. Trial b g.row.S.Denot g.S.Store (Some c.args.budget) c.args.sets.now c.args.store.now 0 (found values) s (c.trials.count + 1)) (sym e.2)
           (leads_over b _ _ _ _ _ _ _ _ i.1 (found values) (c.trials.count + 1) tt (settled c.if-count-budget.false e.0 w.single));

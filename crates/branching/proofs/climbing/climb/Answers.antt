@@ -66,7 +66,7 @@ returns-in-Left g c =
 pub returns : goal.returns
 returns g c =
     let i = c.climbing.invariant in
-    let e = c.in-default.ensures in
+    let e = c.in_default.ensures in
     record {
       climbed = climbing_done (contents c.args.book.now) _ _ _ _ _ _ i.1 (frames (on c.close.new.branches) (on c.close.new.trail) c.close.new.sets) c.close.new.sets (frames_none _ _ _ e.last.none);
       paired = rw (e.last.still, e.last.trail, e.last.sets) (rw e.last.none at i.0);

@@ -8,7 +8,7 @@ use Rattle.branching.proofs.climbing.descend.Goals as goal
 pub adopt-requires : goal.adopt-requires
 adopt-requires c =
     let a = c.args in
-    let e = c.sizes-of-options.ensures in
+    let e = c.sizes_of-options.ensures in
     let p = c.requires.narrows.propagated in
     let n = ap length e.value in
     let t = ap (λ xs. total (length xs) a.sets.now) e.value in
@@ -27,22 +27,22 @@ only-requires c =
 pub open-requires : goal.open-requires
 open-requires c =
     let a = c.args in
-    let e = c.sizes-of-options.ensures in
+    let e = c.sizes_of-options.ensures in
     let s = c.adopt.ensures in
-    let r = descent_room a.book.now (length c.sizes-of-options.result.now) (ap length e.value) a.sets.now a.next.now c.adopt.new.sets (on a.trail.now) (on c.adopt.new.trail) s.saves s.sets c.told-next a.option a.value c.requires.picked (on a.branches.now) c.requires.paired in
+    let r = descent_room a.book.now (length c.sizes_of-options.result.now) (ap length e.value) a.sets.now a.next.now c.adopt.new.sets (on a.trail.now) (on c.adopt.new.trail) s.saves s.sets c.told-next a.option a.value c.requires.picked (on a.branches.now) c.requires.paired in
     record { known = omega (arith, c.requires.picked.known, e.few, ap length e.value); branch = omega (arith, r.1, c.requires.rooms.0); save = omega (arith, r.0, s.room, c.requires.rooms.1) }
 
 pub returns : goal.returns
 returns c =
     let a = c.args in
-    let e = c.sizes-of-options.ensures in
+    let e = c.sizes_of-options.ensures in
     let s = c.adopt.ensures in
     let o = c.open.ensures in
     let k = o.sets ∙ ap (set c.adopt.new.sets a.option) c.only.ensures in
     let n = ap length e.value in
     record {
-      sets = descent_sets a.book.now (length c.sizes-of-options.result.now) n a.sets.now a.next.now c.adopt.new.sets (on a.trail.now) (on c.adopt.new.trail) s.saves s.sets c.told-next a.option a.value c.requires.picked (on a.branches.now) c.requires.paired _ _ _ o.branches o.trail k;
-      frames = descent_frames a.book.now (length c.sizes-of-options.result.now) n a.sets.now a.next.now c.adopt.new.sets (on a.trail.now) (on c.adopt.new.trail) s.saves s.sets c.told-next a.option a.value c.requires.picked (on a.branches.now) c.requires.paired _ _ _ o.branches o.trail k;
-      paired = descent_paired a.book.now (length c.sizes-of-options.result.now) n a.sets.now a.next.now c.adopt.new.sets (on a.trail.now) (on c.adopt.new.trail) s.saves s.sets c.told-next a.option a.value c.requires.picked (on a.branches.now) c.requires.paired _ _ _ o.branches o.trail k;
+      sets = descent_sets a.book.now (length c.sizes_of-options.result.now) n a.sets.now a.next.now c.adopt.new.sets (on a.trail.now) (on c.adopt.new.trail) s.saves s.sets c.told-next a.option a.value c.requires.picked (on a.branches.now) c.requires.paired _ _ _ o.branches o.trail k;
+      frames = descent_frames a.book.now (length c.sizes_of-options.result.now) n a.sets.now a.next.now c.adopt.new.sets (on a.trail.now) (on c.adopt.new.trail) s.saves s.sets c.told-next a.option a.value c.requires.picked (on a.branches.now) c.requires.paired _ _ _ o.branches o.trail k;
+      paired = descent_paired a.book.now (length c.sizes_of-options.result.now) n a.sets.now a.next.now c.adopt.new.sets (on a.trail.now) (on c.adopt.new.trail) s.saves s.sets c.told-next a.option a.value c.requires.picked (on a.branches.now) c.requires.paired _ _ _ o.branches o.trail k;
       rooms = (o.rooms.0, o.rooms.1 ∙ s.room);
     }

@@ -11,12 +11,12 @@ Is false = Unit {0}
 not_so : {P : Type 0} → (P → false ≡ true) → P → ⊥
 not_so h p = subst Is (h p) tt
 
-pub returns-in-default : goal.returns-in-default
-returns-in-default g c = no_value c.in-default.ensures
+pub returns-in_default : goal.returns-in_default
+returns-in_default g c = no_value c.in_default.ensures
 
-pub returns-in-default-pick : goal.returns-in-default-pick
-returns-in-default-pick g c =
-    (c.in-Some.ensures, λ x l. let f = small_next c.args.book.now _ _ c.in-Some.ensures.propagated x l in one_value (get_or c.in-Some.next.sets x 0) f (c.in-Some.ensures.propagated.some x l) (c.in-default-pick.ensures x l), refl)
+pub returns-in_default-pick : goal.returns-in_default-pick
+returns-in_default-pick g c =
+    (c.in-Some.ensures, λ x l. let f = small_next c.args.book.now _ _ c.in-Some.ensures.propagated x l in one_value (get_or c.in-Some.next.sets x 0) f (c.in-Some.ensures.propagated.some x l) (c.in_default-pick.ensures x l), refl)
 
 pub returns-then-seek : goal.returns-then-seek
 returns-then-seek g c =

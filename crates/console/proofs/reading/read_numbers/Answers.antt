@@ -30,14 +30,14 @@ loop-byte-preserved c =
           ((cc), omega arith, omega arith, omega arith, (cc))
     ]
 
-pub overflow-mul-value : goal.overflow-mul-value
-overflow-mul-value c =
+pub overflow_mul-value : goal.overflow_mul-value
+overflow_mul-value c =
     let m = c.in-Digit.ensures in
     let b : c.loop-byte.value < 1000000 = below_million c.loop-byte.value c.loop-byte.digits (omega arith) m.2 in
     omega arith
 
-pub overflow-add-value : goal.overflow-add-value
-overflow-add-value c =
+pub overflow_add-value : goal.overflow_add-value
+overflow_add-value c =
     let m = c.in-Digit.ensures in
     let b : c.loop-byte.value < 1000000 = below_million c.loop-byte.value c.loop-byte.digits (omega arith) m.2 in
     omega arith

@@ -17,12 +17,12 @@ returns-in-Bar c =
 
 pub returns-in-WithdrawFix : goal.returns-in-WithdrawFix
 returns-in-WithdrawFix c =
-    let e = c.withdraw-fix.ensures in
+    let e = c.withdraw_fix.ensures in
     let d = subst (Decided (contents c.args.book.now) c.args.sheet.now.sets _ _) (sym c.in-WithdrawFix.is) (e.value, e.sheet, e.stands) in
     record { value = d.0; sheet = d.1; stands = d.2 }
 
 pub returns-in-WithdrawBar : goal.returns-in-WithdrawBar
 returns-in-WithdrawBar c =
-    let e = c.withdraw-bar.ensures in
+    let e = c.withdraw_bar.ensures in
     let d = subst (Decided (contents c.args.book.now) c.args.sheet.now.sets _ _) (sym c.in-WithdrawBar.is) (e.value, e.sheet, e.stands) in
     record { value = d.0; sheet = d.1; stands = d.2 }

@@ -5,11 +5,11 @@ use Rattle.desk.proofs.commands.obey.Goals as goal
 
 pub returns-in-Ask : goal.returns-in-Ask
 returns-in-Ask g c =
-    let e = c.in-ok-asked.ensures in
-    let last = c.ask-on.new in
+    let e = c.in_ok-asked.ensures in
+    let last = c.ask_on.new in
     let r =
     subst
-    (AskedBy (contents c.args.book.now) g.S.Store c.in-ok-asked.asked c.args.sheet.now.sets c.args.fit.now last.fit c.args.branches.now last.branches c.args.trail.now last.trail
+    (AskedBy (contents c.args.book.now) g.S.Store c.in_ok-asked.asked c.args.sheet.now.sets c.args.fit.now last.fit c.args.branches.now last.branches c.args.trail.now last.trail
     c.args.store.now last.store)
     (sym c.in-Ask.is)
     (record { value = e.value; sheet = refl; does = e.asked; branches = e.branches; trail = e.trail; after = e.after; promised = e.promised }) in

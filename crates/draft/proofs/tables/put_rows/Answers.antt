@@ -11,13 +11,13 @@ split t first arity rows i h =
     at_drop_more (λ l. row_fields t (first + i) (map (take arity) l)) rows i [] h
     ∙ ap (λ k. numbered (Field.Value t (first + i)) 0 (take arity (get_or rows i [])) ++ row_fields t k (map (take arity) (drop (i + 1) rows))) (add_assoc first i 1)
 
-pub put-run-requires : goal.put-run-requires
-put-run-requires c =
+pub put_run-requires : goal.put_run-requires
+put_run-requires c =
     rw c.front-row.ensures (due_ready _ _ _ _ _ _ _ _ c.loop-i.invariant (split c.args.table c.args.first c.args.arity c.args.rows.now c.loop-i.i c.loop-i-test.true))
 
 pub loop-i-preserved : goal.loop-i-preserved
 loop-i-preserved c =
-    due_more _ _ _ _ _ _ _ _ c.loop-i.invariant (split c.args.table c.args.first c.args.arity c.args.rows.now c.loop-i.i c.loop-i-test.true) _ _ c.put-run.auto.out (rw c.front-row.ensures at c.put-run.ensures)
+    due_more _ _ _ _ _ _ _ _ c.loop-i.invariant (split c.args.table c.args.first c.args.arity c.args.rows.now c.loop-i.i c.loop-i-test.true) _ _ c.put_run.auto.out (rw c.front-row.ensures at c.put_run.ensures)
 
 pub returns : goal.returns
 returns c =

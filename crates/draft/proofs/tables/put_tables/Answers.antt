@@ -6,8 +6,8 @@ use Rattle.draft.proofs.Dues.{Due, due_ready, due_more, due_all}
 use Rattle.draft.proofs.TableDues.{blank, tables_split, counts_split}
 use Rattle.draft.proofs.tables.put_tables.Goals as goal
 
-pub put-table-requires : goal.put-table-requires
-put-table-requires c =
+pub put_table-requires : goal.put_table-requires
+put_table-requires c =
     let rows = c.args.rows.now in
     let tables = c.args.tables.now in
     let i = c.loop-i.i in
@@ -22,9 +22,9 @@ loop-i-preserved c =
     let tables = c.args.tables.now in
     let i = c.loop-i.i in
     let t = get_or tables i blank in
-    let n : length c.rows-of.result.now ≡ length (table_of rows t).rows = ap length c.rows-of.ensures ∙ sym (length-map (take t.count (drop t.start rows)) (take t.arity)) in (
-      subst (λ k. Due c.args.out.now c.args.pen.now c.put-table.new.out c.put-table.new.pen (tables_fields 0 0 (map (table_of rows) tables)) (tables_fields (i + 1) (c.loop-i.first + k) (map (table_of rows) (drop (i + 1) tables)))) (sym n)
-          (due_more _ _ _ _ _ _ _ _ c.loop-i.invariant.0 (tables_split rows tables i c.loop-i.first c.loop-i-test.true) _ _ c.put-table.auto.out c.put-table.ensures),
+    let n : length c.rows_of.result.now ≡ length (table_of rows t).rows = ap length c.rows_of.ensures ∙ sym (length-map (take t.count (drop t.start rows)) (take t.arity)) in (
+      subst (λ k. Due c.args.out.now c.args.pen.now c.put_table.new.out c.put_table.new.pen (tables_fields 0 0 (map (table_of rows) tables)) (tables_fields (i + 1) (c.loop-i.first + k) (map (table_of rows) (drop (i + 1) tables)))) (sym n)
+          (due_more _ _ _ _ _ _ _ _ c.loop-i.invariant.0 (tables_split rows tables i c.loop-i.first c.loop-i-test.true) _ _ c.put_table.auto.out c.put_table.ensures),
       omega (arith, c.loop-i.invariant.1, counts_split rows tables i c.loop-i-test.true, n),
     )
 

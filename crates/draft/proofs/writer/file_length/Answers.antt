@@ -6,27 +6,27 @@ use Rattle.draft.specs.Lengths.{table_bits_of}
 use Rattle.draft.proofs.TableDues.{valid_at, bits_more}
 use Rattle.draft.proofs.writer.file_length.Goals as goal
 
-pub table-bits-bits-requires : goal.table-bits-bits-requires
-table-bits-bits-requires c =
+pub table_bits-bits-requires : goal.table_bits-bits-requires
+table_bits-bits-requires c =
     let p = c.args.parts.now in
     let v = valid_at p.rows.now p.tables.now c.loop-i.i c.loop-i-test.true p.sizes.now c.requires.valid.tables in
     record { few = v.few; short = v.short }
 
-pub overflow-add-bits-in-loop-i : goal.overflow-add-bits-in-loop-i
-overflow-add-bits-in-loop-i c =
-    omega (arith, c.loop-i.invariant.1, c.table-bits-bits.ensures.small, length-map c.args.parts.now.tables.now (table_of c.args.parts.now.rows.now), c.requires.valid.tabled, c.loop-i-test.true)
+pub overflow_add-bits-in-loop-i : goal.overflow_add-bits-in-loop-i
+overflow_add-bits-in-loop-i c =
+    omega (arith, c.loop-i.invariant.1, c.table_bits-bits.ensures.small, length-map c.args.parts.now.tables.now (table_of c.args.parts.now.rows.now), c.requires.valid.tabled, c.loop-i-test.true)
 
 pub loop-i-preserved : goal.loop-i-preserved
 loop-i-preserved c =
     let p = c.args.parts.now in
-    (omega (arith, c.loop-i.invariant.0, c.table-bits-bits.ensures.value, bits_more p.rows.now p.tables.now c.loop-i.i c.loop-i-test.true), omega (arith, c.loop-i.invariant.1, c.table-bits-bits.ensures.small))
+    (omega (arith, c.loop-i.invariant.0, c.table_bits-bits.ensures.value, bits_more p.rows.now p.tables.now c.loop-i.i c.loop-i-test.true), omega (arith, c.loop-i.invariant.1, c.table_bits-bits.ensures.small))
 
-pub overflow-add-result : goal.overflow-add-result
-overflow-add-result c =
+pub overflow_add-result : goal.overflow_add-result
+overflow_add-result c =
     omega (arith, c.loop-i.invariant.1, length-map c.args.parts.now.tables.now (table_of c.args.parts.now.rows.now), c.requires.valid.tabled, c.loop-i.auto.i-end)
 
-pub overflow-add-result-2 : goal.overflow-add-result-2
-overflow-add-result-2 c =
+pub overflow_add-result-2 : goal.overflow_add-result-2
+overflow_add-result-2 c =
     omega (arith, c.loop-i.invariant.1, length-map c.args.parts.now.tables.now (table_of c.args.parts.now.rows.now), c.requires.valid.tabled, c.loop-i.auto.i-end, c.requires.short)
 
 pub returns : goal.returns

@@ -17,8 +17,8 @@ put-requires-3 c = number_ready _ _ _ _ _ c.requires.spelled (length-map c.args.
     _ _ c.put.auto.out c.put.ensures
     _ _ c.put-2.auto.out c.put-2.ensures
 
-pub put-options-requires : goal.put-options-requires
-put-options-requires c = record {
+pub put_options-requires : goal.put_options-requires
+put_options-requires c = record {
   even = even_parts _ _ _ _ c.requires.spelled c.requires.valid;
   ready = shapes_ready _ _ _ _ _ c.requires.spelled (length-map c.args.parts.now.tables.now (table_of c.args.parts.now.rows.now)) c.requires.valid c.requires.fit _ _ c.requires.long c.new-pen.ensures.at c.new-pen.ensures.count c.new-pen.ensures.held
       _ _ c.put.auto.out c.put.ensures
@@ -26,14 +26,14 @@ put-options-requires c = record {
       _ _ c.put-3.auto.out c.put-3.ensures;
 }
 
-pub put-tables-requires : goal.put-tables-requires
-put-tables-requires c = record {
+pub put_tables-requires : goal.put_tables-requires
+put_tables-requires c = record {
   small = c.requires.valid.short;
   ready = tables_ready _ _ _ _ _ c.requires.spelled (length-map c.args.parts.now.tables.now (table_of c.args.parts.now.rows.now)) c.requires.valid c.requires.fit _ _ c.requires.long c.new-pen.ensures.at c.new-pen.ensures.count c.new-pen.ensures.held
       _ _ c.put.auto.out c.put.ensures
       _ _ c.put-2.auto.out c.put-2.ensures
       _ _ c.put-3.auto.out c.put-3.ensures
-      _ _ c.put-options.auto.out c.put-options.ensures;
+      _ _ c.put_options.auto.out c.put_options.ensures;
 }
 
 pub put-requires-4 : goal.put-requires-4
@@ -41,16 +41,16 @@ put-requires-4 c = filling_ready _ _ _ _ _ c.requires.spelled (length-map c.args
     _ _ c.put.auto.out c.put.ensures
     _ _ c.put-2.auto.out c.put-2.ensures
     _ _ c.put-3.auto.out c.put-3.ensures
-    _ _ c.put-options.auto.out c.put-options.ensures
-    _ _ c.put-tables.auto.out c.put-tables.ensures
+    _ _ c.put_options.auto.out c.put_options.ensures
+    _ _ c.put_tables.auto.out c.put_tables.ensures
 
-pub put-run-requires : goal.put-run-requires
-put-run-requires c = names_ready _ _ _ _ _ c.requires.spelled (length-map c.args.parts.now.tables.now (table_of c.args.parts.now.rows.now)) c.requires.valid c.requires.fit _ _ c.requires.long c.new-pen.ensures.at c.new-pen.ensures.count c.new-pen.ensures.held
+pub put_run-requires : goal.put_run-requires
+put_run-requires c = names_ready _ _ _ _ _ c.requires.spelled (length-map c.args.parts.now.tables.now (table_of c.args.parts.now.rows.now)) c.requires.valid c.requires.fit _ _ c.requires.long c.new-pen.ensures.at c.new-pen.ensures.count c.new-pen.ensures.held
     _ _ c.put.auto.out c.put.ensures
     _ _ c.put-2.auto.out c.put-2.ensures
     _ _ c.put-3.auto.out c.put-3.ensures
-    _ _ c.put-options.auto.out c.put-options.ensures
-    _ _ c.put-tables.auto.out c.put-tables.ensures
+    _ _ c.put_options.auto.out c.put_options.ensures
+    _ _ c.put_tables.auto.out c.put_tables.ensures
     _ _ c.put-4.auto.out c.put-4.ensures
 
 pub returns : goal.returns
@@ -58,7 +58,7 @@ returns c = book_wrote _ _ _ _ _ c.requires.spelled (length-map c.args.parts.now
     _ _ c.put.auto.out c.put.ensures
     _ _ c.put-2.auto.out c.put-2.ensures
     _ _ c.put-3.auto.out c.put-3.ensures
-    _ _ c.put-options.auto.out c.put-options.ensures
-    _ _ c.put-tables.auto.out c.put-tables.ensures
-    _ _ c.put-4.auto.out c.put-4.ensures _ _ c.put-run.auto.out c.put-run.ensures
-    (All-from_get_or (λ b. b < 256) c.put-run.new.out 0 (λ i h. omega (arith, c.type-inv.out i)))
+    _ _ c.put_options.auto.out c.put_options.ensures
+    _ _ c.put_tables.auto.out c.put_tables.ensures
+    _ _ c.put-4.auto.out c.put-4.ensures _ _ c.put_run.auto.out c.put_run.ensures
+    (All-from_get_or (λ b. b < 256) c.put_run.new.out 0 (λ i h. omega (arith, c.type_inv.out i)))

@@ -5,22 +5,22 @@ use Rattle.grammar.specs.Layout.{table_of}
 use Rattle.draft.proofs.writer.table_bits.Goals as goal
 
 -- the lengths of the scope and of the rows, which bound the product
-bound : (c : goal.After-rows-of-count)
+bound : (c : goal.After-rows_of-count)
     → (length c.front-arity.result.now ≡ length (table_of c.args.rows.now c.args.table.now).scope)
-    × (length c.rows-of-count.result.now ≡ length (table_of c.args.rows.now c.args.table.now).rows)
-    × (5 * length c.front-arity.result.now * length c.rows-of-count.result.now ≤ 20480)
+    × (length c.rows_of-count.result.now ≡ length (table_of c.args.rows.now c.args.table.now).rows)
+    × (5 * length c.front-arity.result.now * length c.rows_of-count.result.now ≤ 20480)
 bound c =
     let t = c.args.table.now in
     let a : length c.front-arity.result.now ≡ length (table_of c.args.rows.now t).scope = ap length c.front-arity.ensures in
-    let n : length c.rows-of-count.result.now ≡ length (table_of c.args.rows.now t).rows =
-    ap length c.rows-of-count.ensures ∙ sym (length-map (take t.count (drop t.start c.args.rows.now)) (take t.arity)) in
-    (a, n, mul-le (5 * length c.front-arity.result.now) (length c.rows-of-count.result.now) 20 1024 (omega (arith, c.requires.few)) (omega (arith, c.requires.short)))
+    let n : length c.rows_of-count.result.now ≡ length (table_of c.args.rows.now t).rows =
+    ap length c.rows_of-count.ensures ∙ sym (length-map (take t.count (drop t.start c.args.rows.now)) (take t.arity)) in
+    (a, n, mul-le (5 * length c.front-arity.result.now) (length c.rows_of-count.result.now) 20 1024 (omega (arith, c.requires.few)) (omega (arith, c.requires.short)))
 
-pub overflow-mul-result-3 : goal.overflow-mul-result-3
-overflow-mul-result-3 c = omega (arith, (bound c).2)
+pub overflow_mul-result-3 : goal.overflow_mul-result-3
+overflow_mul-result-3 c = omega (arith, (bound c).2)
 
-pub overflow-add-result-2 : goal.overflow-add-result-2
-overflow-add-result-2 c = omega (arith, (bound c).0, (bound c).2, c.requires.few)
+pub overflow_add-result-2 : goal.overflow_add-result-2
+overflow_add-result-2 c = omega (arith, (bound c).0, (bound c).2, c.requires.few)
 
 pub returns : goal.returns
 returns c =

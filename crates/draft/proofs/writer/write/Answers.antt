@@ -8,25 +8,25 @@ use Rattle.draft.specs.Written.{counted, overwritten}
 use Rattle.draft.proofs.WriteDraft.{write_refused, letters_spelled, letters_short, parts_valid, parts_fit, write_value, write_reread}
 use Rattle.draft.proofs.writer.write.Goals as goal
 
-pub returns-in-err-index : goal.returns-in-err-index
-returns-in-err-index c =
+pub returns-in_err-index : goal.returns-in_err-index
+returns-in_err-index c =
     let p = err_from_is_err_and c.from-residual.result c.from-residual.ensures.1 in
     let d = c.args.draft.now in
-    let e = c.in-err-index.field-0.0 in
+    let e = c.in_err-index.field-0.0 in
     let is : book (in_draft d) 0 ≡ Err e = (λ t. book (in_draft (sym c.new-source.ensures.draft t)) (sym c.new-source.ensures.at t))
-    ∙ sym c.book.ensures.value ∙ ap (λ r. told (contents_of c.book.new.out c.book.new.names) r c.book.new.source.at) c.in-err-index.was in
+    ∙ sym c.book.ensures.value ∙ ap (λ r. told (contents_of c.book.new.out c.book.new.names) r c.book.new.source.at) c.in_err-index.was in
     let value = write_refused d (length c.args.out.now) e is in
     rw (p.1, p.2) (record { value = ap counted value; out = ap (λ r. overwritten r c.args.out.now) value; inside = tt; reread = tt })
 
-pub write-parts-requires : goal.write-parts-requires
-write-parts-requires c =
+pub write_parts-requires : goal.write_parts-requires
+write_parts-requires c =
     let d = c.args.draft.now in
-    let i = c.in-ok-index.index in
+    let i = c.in_ok-index.index in
     let rows = c.book.new.out in
     let names = c.book.new.names in
     let is : book (in_draft d) 0 ≡ Ok (contents_of rows names i, c.book.new.source.at) = (λ t. book (in_draft (sym c.new-source.ensures.draft t)) (sym c.new-source.ensures.at t))
-    ∙ sym c.book.ensures.value ∙ ap (λ r. told (contents_of rows names) r c.book.new.source.at) c.in-ok-index.was in
-    let h = c.in-ok-index.ensures.shape in
+    ∙ sym c.book.ensures.value ∙ ap (λ r. told (contents_of rows names) r c.book.new.source.at) c.in_ok-index.was in
+    let h = c.in_ok-index.ensures.shape in
     record {
       valid = parts_valid d rows names i _ is h (omega (arith, c.book.auto.names));
       spelled = letters_spelled d rows names i _ is h (omega (arith, c.book.auto.names));
@@ -37,17 +37,17 @@ write-parts-requires c =
 pub returns : goal.returns
 returns c =
     let d = c.args.draft.now in
-    let i = c.in-ok-index.index in
+    let i = c.in_ok-index.index in
     let rows = c.book.new.out in
     let names = c.book.new.names in
     let is : book (in_draft d) 0 ≡ Ok (contents_of rows names i, c.book.new.source.at) = (λ t. book (in_draft (sym c.new-source.ensures.draft t)) (sym c.new-source.ensures.at t))
-    ∙ sym c.book.ensures.value ∙ ap (λ r. told (contents_of rows names) r c.book.new.source.at) c.in-ok-index.was in
-    let h = c.in-ok-index.ensures.shape in
+    ∙ sym c.book.ensures.value ∙ ap (λ r. told (contents_of rows names) r c.book.new.source.at) c.in_ok-index.was in
+    let h = c.in_ok-index.ensures.shape in
     let room = length c.args.out.now in
     let value = write_value d rows names i _ is h (omega (arith, c.book.auto.names)) room in
     record {
-      value = c.write-parts.ensures.value ∙ ap counted value;
-      out = c.write-parts.ensures.out ∙ ap (λ r. overwritten r c.args.out.now) value;
-      inside = c.write-parts.ensures.inside;
-      reread = write_reread d rows names i _ is h (omega (arith, c.book.auto.names)) room c.args.out.now c.write-parts.result c.write-parts.new.out c.write-parts.ensures.value c.write-parts.ensures.out;
+      value = c.write_parts.ensures.value ∙ ap counted value;
+      out = c.write_parts.ensures.out ∙ ap (λ r. overwritten r c.args.out.now) value;
+      inside = c.write_parts.ensures.inside;
+      reread = write_reread d rows names i _ is h (omega (arith, c.book.auto.names)) room c.args.out.now c.write_parts.result c.write_parts.new.out c.write_parts.ensures.value c.write_parts.ensures.out;
     }

@@ -8,15 +8,15 @@ use Rattle.draft.proofs.writer.write_parts.Goals as goal
 pub returns : goal.returns
 returns c =
     let p = contents_in c.args.parts.now in
-    let n : length (encode p) ≡ c.file-length-needed.result = length_encode p c.requires.valid ∙ sym c.file-length-needed.ensures in
+    let n : length (encode p) ≡ c.file_length-needed.result = length_encode p c.requires.valid ∙ sym c.file_length-needed.ensures in
     record {
       value = put_value (encode p) c.args.out.now _ n c.if-out-needed.false;
-      out = put_change (encode p) c.args.out.now _ n _ c.put-book.ensures c.if-out-needed.false;
-      inside = omega (arith, c.if-out-needed.false, c.put-book.auto.out);
+      out = put_change (encode p) c.args.out.now _ n _ c.put_book.ensures c.if-out-needed.false;
+      inside = omega (arith, c.if-out-needed.false, c.put_book.auto.out);
     }
 
 pub returns-then-out-needed : goal.returns-then-out-needed
 returns-then-out-needed c =
     let p = contents_in c.args.parts.now in
-    let n : length (encode p) ≡ c.file-length-needed.result = length_encode p c.requires.valid ∙ sym c.file-length-needed.ensures in
+    let n : length (encode p) ≡ c.file_length-needed.result = length_encode p c.requires.valid ∙ sym c.file_length-needed.ensures in
     record { value = no_value (encode p) c.args.out.now _ n c.if-out-needed.true; out = no_change (encode p) c.args.out.now _ n c.if-out-needed.true; inside = tt }

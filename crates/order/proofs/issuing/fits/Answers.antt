@@ -10,7 +10,7 @@ use Rattle.order.proofs.issuing.fits.Goals as goal
 pub returns-then-not-inside : goal.returns-then-not-inside
 returns-then-not-inside c =
     let b = c.args.book.now in
-    let start = c.starting-sets-start in (
+    let start = c.starting_sets-start in (
       λ e. absurd (clash e),
       λ s. c.if-not-inside.ensures.1 (issues_inside (contents b) (valid b) (stands c.args.sheet.now.sets) start.result.sets start.ensures c.args.values.now c.requires s),
     )
@@ -20,10 +20,10 @@ returns c =
     let b = c.args.book.now in
     let slice = c.args.values.now in
     let decided = stands c.args.sheet.now.sets in
-    let start = c.starting-sets-start in
+    let start = c.starting_sets-start in
     let given = c.singles-given in
     let inside = c.if-not-inside.ensures.0 refl in
-    Decides-like c.all-universal.result
+    Decides-like c.all_universal.result
     (issues_if (contents b) (valid b) decided start.result.sets start.ensures slice c.requires inside given.result.sets given.ensures)
     (if_issues (contents b) (valid b) decided start.result.sets start.ensures slice c.requires inside given.result.sets given.ensures)
-    c.all-universal.ensures
+    c.all_universal.ensures

@@ -8,15 +8,15 @@ sweep-init c = sweeping_none _ _ _ c.requires
 
 pub sweep-preserved : goal.sweep-preserved
 sweep-preserved c =
-    sweeping_more (contents c.args.book.now) c.args.sets.now c.sweep.sets c.sweep.left c.sweep.invariant _ (ap length c.sizes-of-options.ensures.value)
-    c.round-left.new.sets c.round-left.result c.round-left.ensures c.has-empty.result c.has-empty.ensures c.if-has-empty.false
+    sweeping_more (contents c.args.book.now) c.args.sets.now c.sweep.sets c.sweep.left c.sweep.invariant _ (ap length c.sizes_of-options.ensures.value)
+    c.round-left.new.sets c.round-left.result c.round-left.ensures c.has_empty.result c.has_empty.ensures c.if-has_empty.false
 
-pub returns-then-has-empty : goal.returns-then-has-empty
-returns-then-has-empty c =
-    round_empties (contents c.args.book.now) c.args.sets.now c.sweep.sets c.sweep.left c.sweep.invariant _ (ap length c.sizes-of-options.ensures.value)
-    c.round-left.new.sets c.round-left.result c.round-left.ensures c.has-empty.result c.has-empty.ensures c.if-has-empty.true
+pub returns-then-has_empty : goal.returns-then-has_empty
+returns-then-has_empty c =
+    round_empties (contents c.args.book.now) c.args.sets.now c.sweep.sets c.sweep.left c.sweep.invariant _ (ap length c.sizes_of-options.ensures.value)
+    c.round-left.new.sets c.round-left.result c.round-left.ensures c.has_empty.result c.has_empty.ensures c.if-has_empty.true
 
 pub returns : goal.returns
 returns c =
-    ends (contents c.args.book.now) c.args.sets.now c.sweep.sets c.sweep.left c.sweep.invariant _ (ap length c.sizes-of-options.ensures.value)
-    (omega arith) c.has-empty-2.result c.has-empty-2.ensures
+    ends (contents c.args.book.now) c.args.sets.now c.sweep.sets c.sweep.left c.sweep.invariant _ (ap length c.sizes_of-options.ensures.value)
+    (omega arith) c.has_empty-2.result c.has_empty-2.ensures

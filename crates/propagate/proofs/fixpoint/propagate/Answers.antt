@@ -5,7 +5,7 @@ use Rattle.propagate.proofs.Books.{valid}
 use Rattle.propagate.proofs.Ends.{settled_all}
 use Rattle.propagate.proofs.fixpoint.propagate.Goals as goal
 
-pub propagate-from-requires : goal.propagate-from-requires
-propagate-from-requires c =
+pub propagate_from-requires : goal.propagate_from-requires
+propagate_from-requires c =
     let ok = valid c.args.book.now in
     settled_all (contents c.args.book.now).sizes (sets_of (contents c.args.book.now) c.args.sets.now.sets) (omega (arith, ok.few)) (contents c.args.book.now).tables ok.tables

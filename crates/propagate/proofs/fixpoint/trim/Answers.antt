@@ -7,11 +7,11 @@ pub loop-x-init : goal.loop-x-init
 loop-x-init c = trimming_none _ _ _ (omega arith)
 
 pub loop-x-preserved : goal.loop-x-preserved
-loop-x-preserved c = trimming_more _ _ _ _ _ (omega (arith, c.sizes-of-sizes.ensures.few)) c.full.ensures c.loop-x.invariant
+loop-x-preserved c = trimming_more _ _ _ _ _ (omega (arith, c.sizes_of-sizes.ensures.few)) c.full.ensures c.loop-x.invariant
 
 pub returns : goal.returns
 returns c =
-    let e = c.sizes-of-sizes.ensures.value in
+    let e = c.sizes_of-sizes.ensures.value in
     let all = subst (λ s. Trimming s c.args.sets.now c.loop-x.x c.loop-x.sets) e c.loop-x.invariant in
     let same = ap length e in
     record { values = λ x l. all.done x (omega arith); rest = λ x l. all.rest x (omega arith) }

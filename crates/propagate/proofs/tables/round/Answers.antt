@@ -16,7 +16,7 @@ loop-table-init c = rounding_none _ _
 pub touches-requires : goal.touches-requires
 touches-requires c j l =
     let b = c.args.book.now in
-    omega (arith, scope_known b _ (one_of b c.tables-tables.result.now c.loop-table.table-index c.tables-tables.ensures c.loop-table-test.true) _ c.scope-of-scope.ensures j l, (valid b).few)
+    omega (arith, scope_known b _ (one_of b c.tables-tables.result.now c.loop-table.table-index c.tables-tables.ensures c.loop-table-test.true) _ c.scope_of-scope.ensures j l, (valid b).few)
 
 pub revise-changed-requires : goal.revise-changed-requires
 revise-changed-requires c = one_of c.args.book.now c.tables-tables.result.now c.loop-table.table-index c.tables-tables.ensures c.loop-table-test.true
@@ -24,7 +24,7 @@ revise-changed-requires c = one_of c.args.book.now c.tables-tables.result.now c.
 pub starves-requires : goal.starves-requires
 starves-requires c j l =
     let b = c.args.book.now in
-    omega (arith, scope_known b _ (one_of b c.tables-tables.result.now c.loop-table.table-index c.tables-tables.ensures c.loop-table-test.true) _ c.scope-of-scope.ensures j l, (valid b).few)
+    omega (arith, scope_known b _ (one_of b c.tables-tables.result.now c.loop-table.table-index c.tables-tables.ensures c.loop-table-test.true) _ c.scope_of-scope.ensures j l, (valid b).few)
 
 pub returns-then-starves : goal.returns-then-starves
 returns-then-starves c =
@@ -34,7 +34,7 @@ returns-then-starves c =
     let t = get_or tables i blank in
     let one = one_of b tables i c.tables-tables.ensures c.loop-table-test.true in
     let empty = c.starves.ensures.0 c.if-starves.true in
-    let known = scope_known b t one _ c.scope-of-scope.ensures empty.1.0 empty.1.1 in
+    let known = scope_known b t one _ c.scope_of-scope.ensures empty.1.0 empty.1.1 in
     record {
       cut = cut_more (contents b) c.args.sets.now _ c.loop-table.sets c.loop-table.changed c.loop-table.invariant (table_at b t) c.revise-changed.new.sets c.revise-changed.result c.revise-changed.ensures
           (λ sets. all_at (λ t. Upheld t sets) b tables i c.tables-tables.ensures c.loop-table-test.true);
@@ -59,7 +59,7 @@ loop-table-preserved c =
           subst₂ (Rounding (contents b) before (done ++ table_at b t ∷ [])) (sym w.sets-is) (sym w.changed-is)
           (rounding_skip (contents b) before done c.loop-table.sets c.loop-table.changed c.loop-table.invariant (table_at b t) c.args.pending
           (all_at (λ t. Avoids t.scope c.args.pending → Upheld t (placed before)) b tables i c.tables-tables.ensures c.loop-table-test.true c.requires)
-          (λ h. not_from_Decides c.touches.result c.touches.ensures w.if-touches.false (h.0, subst (λ s. Mentions s h.0) (sym c.scope-of-scope.ensures) h.1, h.2)))
+          (λ h. not_from_Decides c.touches.result c.touches.ensures w.if-touches.false (h.0, subst (λ s. Mentions s h.0) (sym c.scope_of-scope.ensures) h.1, h.2)))
     ])
 
 pub returns : goal.returns

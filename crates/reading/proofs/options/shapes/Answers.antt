@@ -7,13 +7,13 @@ use Rattle.source.proofs.Each.{sofar_more, sofar_stop, sofar_all}
 use Rattle.reading.proofs.Pairs.{pairs, pairs_push, firsts, seconds}
 use Rattle.reading.proofs.options.shapes.Goals as goal
 
-pub returns-in-err-size : goal.returns-in-err-size
-returns-in-err-size g c =
+pub returns-in_err-size : goal.returns-in_err-size
+returns-in_err-size g c =
     let p = err_from_is_err_and c.from-residual.result c.from-residual.ensures.1 in
     let so = c.loop-i.invariant.0 in
     rw (p.1, p.2) (record {
       value = ap (λ r. and_then r (λ q. Ok ((map (λ o. o.0) q.0, map (λ o. o.1) q.0), q.1)))
-          (sofar_stop _ _ _ _ _ _ _ _ _ _ so (λ v. v) c.shape.result c.in-err-size.field-0.0 _ c.loop-i-test.true c.in-err-size.was c.shape.ensures.value);
+          (sofar_stop _ _ _ _ _ _ _ _ _ _ so (λ v. v) c.shape.result c.in_err-size.field-0.0 _ c.loop-i-test.true c.in_err-size.was c.shape.ensures.value);
       same = c.shape.ensures.same ∙ so.same;
       total = tt;
     })
@@ -21,8 +21,8 @@ returns-in-err-size g c =
 pub loop-i-preserved : goal.loop-i-preserved
 loop-i-preserved g c =
     let i = c.loop-i.i in
-    let size = c.in-ok-size.size in
-    let long = c.in-ok-size.length in
+    let size = c.in_ok-size.size in
+    let long = c.in_ok-size.length in
     let sizes = c.loop-i.sizes in
     let lengths = c.loop-i.lengths in
     let fits : i < length sizes = omega arith in
@@ -30,10 +30,10 @@ loop-i-preserved g c =
     let even : length (take i sizes) ≡ length (take i lengths) = length-take-le i sizes (omega arith) ∙ sym (length-take-le i lengths (omega arith)) in
     let grown = take_more_set lengths i long room in
     let summed = ap sum grown ∙ sum_by_push (λ x. x) (take i lengths) long in (
-      sofar_more _ _ _ _ _ _ _ _ _ _ c.loop-i.invariant.0 (λ v. v) c.shape.result (size, long) _ _ _ _ c.loop-i-test.true c.in-ok-size.was c.shape.ensures.value c.shape.ensures.same
+      sofar_more _ _ _ _ _ _ _ _ _ _ c.loop-i.invariant.0 (λ v. v) c.shape.result (size, long) _ _ _ _ c.loop-i-test.true c.in_ok-size.was c.shape.ensures.value c.shape.ensures.same
           ((λ t. pairs (take_more_set sizes i size fits t) (grown t)) ∙ pairs_push (take i sizes) (take i lengths) size long even) refl,
       omega (arith, c.loop-i.invariant.1, summed),
-      omega (arith, c.loop-i.invariant.2, c.in-ok-size.ensures.range.1),
+      omega (arith, c.loop-i.invariant.2, c.in_ok-size.ensures.range.1),
     )
 
 pub returns : goal.returns

@@ -13,7 +13,7 @@ pub adds-requires : goal.adds-requires
 adds-requires c j l =
     let b = c.args.book.now in
     let one = one_of b c.tables-tables.result.now c.loop-table.table-index c.tables-tables.ensures c.loop-table-test.true in
-    omega (arith, scope_known b _ one _ c.scope-of-scope.ensures j l, (valid b).few)
+    omega (arith, scope_known b _ one _ c.scope_of-scope.ensures j l, (valid b).few)
 
 pub covers-requires : goal.covers-requires
 covers-requires c = one_of c.args.book.now c.tables-tables.result.now c.loop-table.table-index c.tables-tables.ensures c.loop-table-test.true
@@ -22,7 +22,7 @@ pub mark-bound-requires : goal.mark-bound-requires
 mark-bound-requires c j l =
     let b = c.args.book.now in
     let one = one_of b c.tables-tables.result.now c.loop-table.table-index c.tables-tables.ensures c.loop-table-test.true in
-    omega (arith, scope_known b _ one _ c.scope-of-scope.ensures j l, (valid b).few)
+    omega (arith, scope_known b _ one _ c.scope_of-scope.ensures j l, (valid b).few)
 
 pub loop-table-init : goal.loop-table-init
 loop-table-init c = binds_none _ _ (omega arith)
@@ -35,7 +35,7 @@ loop-table-preserved c =
     let i = c.loop-table.table-index in
     let t = get_or tables i blank in
     let done = map (table_at b) (take i tables) in
-    let scope-is = c.scope-of-scope.ensures in
+    let scope-is = c.scope_of-scope.ensures in
     subst (λ ts. Binds sets ts c.if-adds.bound) (sym (map_more (table_at b) tables i blank c.loop-table-test.true))
     (elim c.if-adds.branch [
       | then-adds+then-not-covers w ↦

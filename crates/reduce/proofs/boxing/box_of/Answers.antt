@@ -9,8 +9,8 @@ loop-x-init c = recording_none _ _ _
 
 pub returns : goal.returns
 returns c =
-    boxed (contents c.args.book.now) (valid c.args.book.now) c.args.sets.now.sets c.trim.new.sets c.trim.ensures c.bound-options-bound.result c.bound-options-bound.ensures
-    c.sizes-of-sizes.result.now c.sizes-of-sizes.ensures.value c.loop-x.x (omega arith) c.loop-x.noted c.loop-x.invariant
+    boxed (contents c.args.book.now) (valid c.args.book.now) c.args.sets.now.sets c.trim.new.sets c.trim.ensures c.bound_options-bound.result c.bound_options-bound.ensures
+    c.sizes_of-sizes.result.now c.sizes_of-sizes.ensures.value c.loop-x.x (omega arith) c.loop-x.noted c.loop-x.invariant
 
 pub loop-x-preserved : goal.loop-x-preserved
-loop-x-preserved c = recording_more _ _ _ c.loop-x.x _ c.loop-x.noted c.recorded.result (omega (arith, c.sizes-of-sizes.ensures.few)) (omega arith) c.recorded.ensures c.loop-x.invariant
+loop-x-preserved c = recording_more _ _ _ c.loop-x.x _ c.loop-x.noted c.recorded.result (omega (arith, c.sizes_of-sizes.ensures.few)) (omega arith) c.recorded.ensures c.loop-x.invariant

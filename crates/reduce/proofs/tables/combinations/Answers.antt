@@ -10,8 +10,8 @@ use Rattle.reduce.proofs.tables.combinations.Goals as goal
 pub loop-j-init : goal.loop-j-init
 loop-j-init c = (omega arith, omega arith)
 
-pub overflow-mul-all : goal.overflow-mul-all
-overflow-mul-all c =
+pub overflow_mul-all : goal.overflow_mul-all
+overflow_mul-all c =
     let few : c.loop-j.j ≤ 4 = omega (arith, c.requires.few) in
     let fits : c.loop-j.all ≤ 32 ^ 4 = le_trans c.loop-j.invariant.1 (pow-le-pow_right {n = 32} (omega arith) few) in
     omega (arith, mul-le c.loop-j.all c.size-all.result (32 ^ 4) 32 fits c.size-all.ensures.bound)

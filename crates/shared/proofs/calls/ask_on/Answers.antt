@@ -10,11 +10,11 @@ pub returns : goal.returns
 returns g c =
     let b = c.args.book.now in
     let valid = valid_out (contents b) b.valid in
-    let start = c.starting-sets-start.ensures in
+    let start = c.starting_sets-start.ensures in
     let sets = c.args.sheet.now.sets in
     record {
-      value = sym c.in-ok-askable.was ∙ c.askable.ensures.value;
-      asked = (c.starting-sets-start.result.sets, start, c.ask-asked.ensures.asks, c.ask-asked.ensures.fit);
+      value = sym c.in_ok-askable.was ∙ c.askable.ensures.value;
+      asked = (c.starting_sets-start.result.sets, start, c.ask-asked.ensures.asks, c.ask-asked.ensures.fit);
       branches = c.ask-asked.auto.branches;
       trail = c.ask-asked.auto.trail;
       after = λ calls so. record {

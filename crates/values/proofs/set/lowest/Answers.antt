@@ -3,8 +3,8 @@ use lib.Count.{trailing_le}
 use Rattle.values.proofs.Digits.{trailing_member, trailing_lowest}
 use Rattle.values.proofs.set.lowest.Goals as goal
 
-pub overflow-cast-result : goal.overflow-cast-result
-overflow-cast-result c = omega (arith, trailing_le 32 c.args.set)
+pub overflow_cast-result : goal.overflow_cast-result
+overflow_cast-result c = omega (arith, trailing_le 32 c.args.set)
 
 pub returns : goal.returns
 returns c =

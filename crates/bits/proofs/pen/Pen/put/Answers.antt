@@ -12,8 +12,8 @@ loop-count-init c =
     let s = shl_whole p.held 7 w 64 h (omega arith) in
     simp s (field_more c.args.out.now p.at p.count p.held w c.args.value p.few p.small (omega arith) (omega arith))
 
-pub overflow-cast-out : goal.overflow-cast-out
-overflow-cast-out c =
+pub overflow_cast-out : goal.overflow_cast-out
+overflow_cast-out c =
     let k = c.loop-count.count - 8 in
     let held = c.loop-count.held in
     let e : c.loop-count.count ≡ 8 + k = omega arith in

@@ -2,8 +2,8 @@ use Rattle.std.proofs.Common.{◌≡◌, ◌+◌, ◌-◌, ◌<◌, ◌≤◌, l
 use Rattle.book.proofs.Names.{sums_le, sums_more}
 use Rattle.book.proofs.book.Book.name_start.Goals as goal
 
-pub overflow-add-start : goal.overflow-add-start
-overflow-add-start c =
+pub overflow_add-start : goal.overflow_add-start
+overflow_add-start c =
     let b = c.args.self.now in
     let xs = b.index.lengths in
     let i = c.loop-i.i in

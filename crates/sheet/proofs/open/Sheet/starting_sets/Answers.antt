@@ -10,9 +10,9 @@ loop-x-preserved c =
     let sets = c.loop-x.sets in
     let x = c.loop-x.x in
     let s = c.start.result in
-    let sizes = c.sizes-of-sizes.result.now in
+    let sizes = c.sizes_of-sizes.result.now in
     let decided = stands c.args.self.now.sets in
-    let lt : x < length sets = omega (arith, inv.0, c.sizes-of-sizes.ensures.few) in
+    let lt : x < length sets = omega (arith, inv.0, c.sizes_of-sizes.ensures.few) in
     let here = get_or-set_same sets x s 0 lt in (
       length-set sets x s ∙ inv.0,
       λ k v. (below_more (λ k. In (get_or (set sets x s) k 0) v → (v < get_or sizes k 0) × Leaves decided k v) x

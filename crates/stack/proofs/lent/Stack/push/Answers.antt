@@ -13,14 +13,14 @@ returns g c =
     let l : n < length xs = omega (arith, length_stacked xs n c.args.self.now.fits) in
     record { put = stacked_push xs n c.args.x l; room = length-set xs n c.args.x }
 
-pub overflow-add-self : goal.overflow-add-self
-overflow-add-self g c =
+pub overflow_add-self : goal.overflow_add-self
+overflow_add-self g c =
     let s = c.args.self.now in
     let l : s.len < length s.items.now = omega (arith, length_stacked s.items.now s.len s.fits) in
     search rules
 
-pub invariant-of-self : goal.invariant-of-self
-invariant-of-self g c =
+pub invariant_of-self : goal.invariant_of-self
+invariant_of-self g c =
     let s = c.args.self.now in
     let l : s.len < length s.items.now = omega (arith, length_stacked s.items.now s.len s.fits) in
     search rules
