@@ -1,8 +1,10 @@
 // Boxes: what is remembered of a state of the search.
 #![tactic(auto)]
 
-ghost use Rattle.std.specs.Prelude.{◌≡◌, Decides};
+ghost use Rattle.std.specs.Prelude.{◌≡◌, ◌==◌, Decides};
 ghost use Rattle.std.specs.Cmp.Rules.{comparing};
+ghost use Rattle.std.specs.Cmp.Lexicographic.{pointwise};
+ghost use Rattle.std.specs.Ordering.{on};
 ghost use Rattle.std.proofs.Common.{rules};
 ghost use Rattle.std.specs.Cmp as Keys;
 
@@ -22,11 +24,14 @@ fn same_sets(one: &[u32; 24], other: &[u32; 24]) -> bool
 
 /// Two boxes are equal when they have the same set at each of the 24 options.
 impl PartialEq for ValueBox {
-    ghost equals = { λ x y r. Decides r (x ≡ y) };
+    ghost eq = { on (λ x. x.sets) (pointwise ◌==◌) };
 
     ghost laws = { Keys.partial_equiv_from_equiv (Prim.search (comparing, rules)) };
 
-    fn eq(&self, other: &ValueBox) -> bool {
+    fn eq(&self, other: &ValueBox) -> bool
+        ensures computes { result ≡ on (λ x. x.sets) (pointwise ◌==◌) self.now other.now }
+        ensures decides { Decides result (self.now ≡ other.now) }
+    {
         same_sets(&self.sets, &other.sets)
     }
 }

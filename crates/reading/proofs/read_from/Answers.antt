@@ -6,7 +6,7 @@ use Rattle.reading.proofs.read_from.Goals as goal
 
 pub returns-in_err-tail : goal.returns-in_err-tail
 returns-in_err-tail g c =
-    let p = err_from_is_err_and c.from-residual-in_err-tail.result c.from-residual-in_err-tail.ensures.1 in
+    let p = err_from_is_err_and c.from_residual-in_err-tail.result c.from_residual-in_err-tail.ensures.1 in
     let n = c.in_ok-options.options in
     let total = c.in_ok-letters.ensures.total in
     let count = length-take-le (c.in_ok-letters.letters - 0) c.args.names.now (omega (arith, total.1)) ∙ sub-zero c.in_ok-letters.letters ∙ total.0 in

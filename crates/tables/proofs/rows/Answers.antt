@@ -10,7 +10,7 @@ use Rattle.tables.proofs.rows.Goals as goal
 
 pub returns-in_err-read : goal.returns-in_err-read
 returns-in_err-read g c =
-    let p = err_from_is_err_and c.from-residual.result c.from-residual.ensures.1 in
+    let p = err_from_is_err_and c.from_residual.result c.from_residual.ensures.1 in
     let so = c.loop-i.invariant.0 in
     rw (p.1, p.2) (record {
       value = sofar_stop _ _ _ _ _ _ _ _ _ _ so (take (length c.args.scope.now)) c.row.result c.in_err-read.field-0.0 _ c.loop-i-test.true c.in_err-read.was c.row.ensures.value;

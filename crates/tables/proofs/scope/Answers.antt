@@ -9,7 +9,7 @@ loop-j-init g c = (sofar_none _ _ _ _ _ _, λ k h. absurd (omega arith), refl)
 
 pub returns-in_err-option : goal.returns-in_err-option
 returns-in_err-option g c =
-    let p = err_from_is_err_and c.from-residual.result c.from-residual.ensures.1 in
+    let p = err_from_is_err_and c.from_residual.result c.from_residual.ensures.1 in
     let so = c.loop-j.invariant.0 in
     rw (p.1, p.2) (record {
       value = sofar_stop _ _ _ _ _ _ _ _ _ _ so (λ v. v) c.within.result c.in_err-option.field-0.0 _ c.loop-j-test.true c.in_err-option.was c.within.ensures.value;

@@ -7,7 +7,7 @@ use Rattle.tables.proofs.tables.Goals as goal
 
 pub returns-in_err-next : goal.returns-in_err-next
 returns-in_err-next g c =
-    let p = err_from_is_err_and c.from-residual.result c.from-residual.ensures.1 in
+    let p = err_from_is_err_and c.from_residual.result c.from_residual.ensures.1 in
     let so = c.loop-t.invariant.0 in
     rw (p.1, p.2) (record {
       value = sofar_stop _ _ _ _ _ _ _ _ _ _ so (table_of c.table.new.out) c.table.result c.in_err-next.field-0.0 _ c.loop-t-test.true c.in_err-next.was c.table.ensures.value;

@@ -9,7 +9,7 @@ loop-j-init g c = (sofar_none _ _ _ _ _ _, drop-replicate (length c.args.scope.n
 
 pub returns-in_err-value : goal.returns-in_err-value
 returns-in_err-value g c =
-    let p = err_from_is_err_and c.from-residual.result c.from-residual.ensures.1 in
+    let p = err_from_is_err_and c.from_residual.result c.from_residual.ensures.1 in
     let so = c.loop-j.invariant.0 in
     rw (p.1, p.2) (record {
       value = sofar_stop _ _ _ _ _ _ _ _ _ _ so (λ v. v) c.within.result c.in_err-value.field-0.0 _ c.loop-j-test.true c.in_err-value.was c.within.ensures.value;

@@ -10,7 +10,7 @@ use Rattle.draft.proofs.writer.write.Goals as goal
 
 pub returns-in_err-index : goal.returns-in_err-index
 returns-in_err-index c =
-    let p = err_from_is_err_and c.from-residual.result c.from-residual.ensures.1 in
+    let p = err_from_is_err_and c.from_residual.result c.from_residual.ensures.1 in
     let d = c.args.draft.now in
     let e = c.in_err-index.field-0.0 in
     let is : book (in_draft d) 0 ≡ Err e = (λ t. book (in_draft (sym c.new-source.ensures.draft t)) (sym c.new-source.ensures.at t))

@@ -9,7 +9,7 @@ loop-k-init g c = sofar_none _ _ _ _ _ _
 
 pub returns-in_err-byte : goal.returns-in_err-byte
 returns-in_err-byte g c =
-    let p = err_from_is_err_and c.from-residual.result c.from-residual.ensures.1 in
+    let p = err_from_is_err_and c.from_residual.result c.from_residual.ensures.1 in
     let so = c.loop-k.invariant in
     rw (p.1, p.2) (record {
       value = sofar_stop _ _ _ _ _ _ _ _ _ _ so (λ v. v) c.within.result c.in_err-byte.field-0.0 _ c.loop-k-test.true c.in_err-byte.was c.within.ensures.value;

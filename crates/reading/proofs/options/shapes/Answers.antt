@@ -9,7 +9,7 @@ use Rattle.reading.proofs.options.shapes.Goals as goal
 
 pub returns-in_err-size : goal.returns-in_err-size
 returns-in_err-size g c =
-    let p = err_from_is_err_and c.from-residual.result c.from-residual.ensures.1 in
+    let p = err_from_is_err_and c.from_residual.result c.from_residual.ensures.1 in
     let so = c.loop-i.invariant.0 in
     rw (p.1, p.2) (record {
       value = ap (λ r. and_then r (λ q. Ok ((map (λ o. o.0) q.0, map (λ o. o.1) q.0), q.1)))
