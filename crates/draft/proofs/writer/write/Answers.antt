@@ -14,7 +14,7 @@ returns-in_err-index c =
     let d = c.args.draft.now in
     let e = c.in_err-index.field-0.0 in
     let is : book (in_draft d) 0 ≡ Err e = (λ t. book (in_draft (sym c.new-source.ensures.draft t)) (sym c.new-source.ensures.at t))
-    ∙ sym c.book.ensures.value ∙ ap (λ r. told (contents_of c.book.new.out c.book.new.names) r c.book.new.source.at) c.in_err-index.was in
+    ∙ sym c.read_from.ensures.value ∙ ap (λ r. told (contents_of c.read_from.new.out c.read_from.new.names) r c.read_from.new.source.at) c.in_err-index.was in
     let value = write_refused d (length c.args.out.now) e is in
     rw (p.1, p.2) (record { value = ap counted value; out = ap (λ r. overwritten r c.args.out.now) value; inside = tt; reread = tt })
 
@@ -22,32 +22,32 @@ pub write_parts-requires : goal.write_parts-requires
 write_parts-requires c =
     let d = c.args.draft.now in
     let i = c.in_ok-index.index in
-    let rows = c.book.new.out in
-    let names = c.book.new.names in
-    let is : book (in_draft d) 0 ≡ Ok (contents_of rows names i, c.book.new.source.at) = (λ t. book (in_draft (sym c.new-source.ensures.draft t)) (sym c.new-source.ensures.at t))
-    ∙ sym c.book.ensures.value ∙ ap (λ r. told (contents_of rows names) r c.book.new.source.at) c.in_ok-index.was in
+    let rows = c.read_from.new.out in
+    let names = c.read_from.new.names in
+    let is : book (in_draft d) 0 ≡ Ok (contents_of rows names i, c.read_from.new.source.at) = (λ t. book (in_draft (sym c.new-source.ensures.draft t)) (sym c.new-source.ensures.at t))
+    ∙ sym c.read_from.ensures.value ∙ ap (λ r. told (contents_of rows names) r c.read_from.new.source.at) c.in_ok-index.was in
     let h = c.in_ok-index.ensures.shape in
     record {
-      valid = parts_valid d rows names i _ is h (omega (arith, c.book.auto.names));
-      spelled = letters_spelled d rows names i _ is h (omega (arith, c.book.auto.names));
-      short = letters_short d rows names i _ is h (omega (arith, c.book.auto.names));
-      fit = parts_fit d rows names i _ is h (omega (arith, c.book.auto.names));
+      valid = parts_valid d rows names i _ is h (omega (arith, c.read_from.auto.names));
+      spelled = letters_spelled d rows names i _ is h (omega (arith, c.read_from.auto.names));
+      short = letters_short d rows names i _ is h (omega (arith, c.read_from.auto.names));
+      fit = parts_fit d rows names i _ is h (omega (arith, c.read_from.auto.names));
     }
 
 pub returns : goal.returns
 returns c =
     let d = c.args.draft.now in
     let i = c.in_ok-index.index in
-    let rows = c.book.new.out in
-    let names = c.book.new.names in
-    let is : book (in_draft d) 0 ≡ Ok (contents_of rows names i, c.book.new.source.at) = (λ t. book (in_draft (sym c.new-source.ensures.draft t)) (sym c.new-source.ensures.at t))
-    ∙ sym c.book.ensures.value ∙ ap (λ r. told (contents_of rows names) r c.book.new.source.at) c.in_ok-index.was in
+    let rows = c.read_from.new.out in
+    let names = c.read_from.new.names in
+    let is : book (in_draft d) 0 ≡ Ok (contents_of rows names i, c.read_from.new.source.at) = (λ t. book (in_draft (sym c.new-source.ensures.draft t)) (sym c.new-source.ensures.at t))
+    ∙ sym c.read_from.ensures.value ∙ ap (λ r. told (contents_of rows names) r c.read_from.new.source.at) c.in_ok-index.was in
     let h = c.in_ok-index.ensures.shape in
     let room = length c.args.out.now in
-    let value = write_value d rows names i _ is h (omega (arith, c.book.auto.names)) room in
+    let value = write_value d rows names i _ is h (omega (arith, c.read_from.auto.names)) room in
     record {
       value = c.write_parts.ensures.value ∙ ap counted value;
       out = c.write_parts.ensures.out ∙ ap (λ r. overwritten r c.args.out.now) value;
       inside = c.write_parts.ensures.inside;
-      reread = write_reread d rows names i _ is h (omega (arith, c.book.auto.names)) room c.args.out.now c.write_parts.result c.write_parts.new.out c.write_parts.ensures.value c.write_parts.ensures.out;
+      reread = write_reread d rows names i _ is h (omega (arith, c.read_from.auto.names)) room c.args.out.now c.write_parts.result c.write_parts.new.out c.write_parts.ensures.value c.write_parts.ensures.out;
     }
