@@ -6,7 +6,6 @@ use Rattle.std.proofs.lemmas.Bool.{cases_Bool, cond-true, cond-false, eqb-true}
 use Rattle.std.proofs.lemmas.List.{append-nil, append_assoc, reverse-append, length-append, length-reverse, length-take-le, length-drop, take-append-drop, take_more_set, drop-set-lt, drop_more, take_all, drop_all, take_at, length-set}
 use Rattle.store.specs.Ring.{newest_first}
 use Rattle.store.proofs.Members.{has_reverse, has_unreversed, has_swapped}
-use Rattle.std.proofs.lemmas.Bool.Decides.{Decides-eqb}
 
 module _ {X : Type 0} where
   pub length_newest : (ps : List X) (n : ℕ) (full : Bool) → n ≤ length ps → length (newest_first ps n full) ≡ cond full (length ps) n
@@ -79,10 +78,10 @@ module _ {X : Type 0} where
             rw (at, i, f) (newest_put ps n m full b l e)
       ]
 
-  -- a look at the places that count, in a ring of m places
-  pub decides_newest : (ps : List X) (n m k : ℕ) (full : Bool) (x : X) (r : Bool) → IsAnyAnswer (λ y t. Decides t (y ≡ x)) (take k ps) r → k ≡ cond full m n → length ps ≡ m → Decides r (Has (newest_first ps n full) x)
-  decides_newest ps n m k full x r h c e =
+  -- a look at the places that count, by a test that decides equality
+  pub decides_newest : (E : X → X → Bool) → ((a b : X) → Decides (E a b) (a ≡ b)) → (ps : List X) (n m k : ℕ) (full : Bool) (x : X) (r : Bool) → IsAnyAnswer (λ y t. E y x ≡ t) (take k ps) r → k ≡ cond full m n → length ps ≡ m → Decides r (Has (newest_first ps n full) x)
+  decides_newest E same ps n m k full x r h c e =
       let all : k ≡ cond full (length ps) n = c ∙ ap (λ j. cond full j n) (sym e) in
       let D : ℕ → Type 0 = λ j. Decides r (Has (take j ps) x) in
-      let d = subst D all (contains_decides eqb Decides-eqb (take k ps) x r h) in
+      let d = subst D all (contains_decides E same (take k ps) x r h) in
       ((λ t. has_newest ps n full x (d.0 t)), (λ t. d.1 (newest_has ps n full x t)))
