@@ -21,7 +21,7 @@ pub fn nothing() -> ValueBox {
 
 // Whether any store holds the box, which it is told then.
 pub fn note<S: Store>(store: &mut S, refuted: &ValueBox) -> bool
-    ensures answer { Decides result (held store.old refuted.now) }
+    ensures answer { Decides result (S.held store.old refuted.now) }
     ensures change { Noted S.Store store.old refuted.now store.new }
 {
     let known = store.seen(refuted);
