@@ -1,5 +1,5 @@
 -- The lines of a conversation: what each that is read asks for, and every byte of each that is printed.
-use Rattle.std.specs.Prelude.{◌≡◌, ℕ, List, [], ◌∷◌, Some, codes}
+use Rattle.std.specs.Prelude.{◌≡◌, [], ◌∷◌, Some, codes}
 use Rattle.questions.specs.declared.question.Question.TheVariants.{Person, Standing}
 use Rattle.console.specs.declared.command.Command.TheVariants.{Fix, Bar, WithdrawFix, Ask}
 use Rattle.console.specs.declared.reply.Reply.TheVariants.{Ok, No, None, Stop}
