@@ -1,5 +1,5 @@
 -- Trimmed sets have few values, and a trial on them is one on the sets that they come from.
-use Rattle.std.proofs.Common.{◌≡◌, ℕ, suc, ◌+◌, ◌%◌, ◌^◌, ◌<◌, ◌≤◌, ◌⊎◌, List, [], ◌∷◌, length, get_or, sum, Option, sym, ap, ◌∙◌, subst, inl, inr, mod-lt, arith}
+use Rattle.std.proofs.Common.{◌≡◌, ℕ, suc, ◌%◌, ◌^◌, ◌<◌, ◌≤◌, List, [], ◌∷◌, length, get_or, sum, Option, sym, ap, ◌∙◌, subst, inl, inr, mod-lt, arith}
 use native.Mathlib.Nat.{mod-mod}
 use lib.Count.{ones, ones-le}
 use Rattle.std.proofs.lemmas.Nat.{pow_pos}

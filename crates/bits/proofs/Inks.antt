@@ -2,7 +2,7 @@
 use Rattle.std.proofs.Common.{◌≡◌, ℕ, zero, suc, ◌+◌, ◌-◌, ◌*◌, ◌/◌, ◌%◌, ◌^◌, ◌<◌, ◌≤◌, List, [], ◌∷◌, ◌++◌, length, take, drop, set, sym, refl, ap, ◌∙◌, subst, append_assoc, append-nil, add_comm, zero-add, arith, pow_pos}
 use lib.Arith.{digits_lt}
 use Rattle.std.specs.List.{AllByRecursion as All}
-use Rattle.std.proofs.lemmas.Nat.{shr-shr, shr_high, shr_split, mod_below, shr_below, pow-add}
+use Rattle.std.proofs.lemmas.Nat.{shr-shr, shr_high, shr_split, mod_below, pow-add}
 use Rattle.std.proofs.ByRecursion.{All-take}
 use Rattle.std.proofs.lemmas.List.{take_more_set, drop-set-lt, drop-drop}
 use Rattle.bits.specs.Bits.{spell, bits}

@@ -1,5 +1,5 @@
 -- The laws of bits and numbers that the proofs of reader, writer and round trip share.
-use Rattle.std.proofs.Common.{◌≡◌, ℕ, zero, suc, ◌+◌, ◌-◌, ◌*◌, ◌/◌, ◌%◌, ◌^◌, ◌<◌, ◌≤◌, Bool, true, false, cond, List, [], ◌∷◌, ◌++◌, length, get_or, take, drop, sym, refl, ap, ◌∙◌, subst, ⊎_elim, mod-eq_of_lt, mul_assoc, one-add, arith, length-append, length-drop, get_or-drop, pow-add}
+use Rattle.std.proofs.Common.{◌≡◌, ℕ, zero, suc, ◌+◌, ◌-◌, ◌*◌, ◌/◌, ◌%◌, ◌^◌, ◌<◌, ◌≤◌, List, [], ◌∷◌, ◌++◌, length, get_or, take, drop, sym, refl, ap, ◌∙◌, ⊎_elim, mod-eq_of_lt, mul_assoc, one-add, arith, length-append, length-drop, get_or-drop, pow-add}
 use lib.Bits.{bit_and, and_mask}
 use lib.Seq.{drop-nil}
 use lib.Pow.{mod-pow-add}

@@ -1,5 +1,5 @@
 -- Bits and bytes: each way round.
-use Rattle.std.proofs.Common.{◌≡◌, ℕ, zero, suc, ◌+◌, ◌-◌, ◌*◌, ◌/◌, ◌%◌, ◌^◌, ◌<◌, ◌≤◌, List, [], ◌∷◌, ◌++◌, length, take, drop, sym, refl, ap, ◌∙◌, subst, append_assoc, append-nil, mul_assoc, add_comm, arith, length-append, length-drop, length-take-le, take-add, pow_pos}
+use Rattle.std.proofs.Common.{◌≡◌, ℕ, zero, suc, ◌+◌, ◌*◌, ◌/◌, ◌%◌, ◌^◌, ◌<◌, ◌≤◌, List, [], ◌∷◌, ◌++◌, length, take, drop, sym, refl, ap, ◌∙◌, mul_assoc, add_comm, arith, length-drop, length-take-le, take-add, pow_pos}
 use native.Mathlib.Nat.{add-mul-div_right, pow-succ'}
 use Rattle.std.specs.List.{AllByRecursion as All}
 use Rattle.std.proofs.lemmas.Nat.{div-mul-add, mul-le}
@@ -7,7 +7,7 @@ use Rattle.std.proofs.ByRecursion.{All-append, All-take, All-drop}
 use Rattle.std.proofs.lemmas.List.{take_all}
 use Rattle.bits.specs.Bits.{spell, number, bits}
 use Rattle.bits.specs.Bytes.{bytes, packed}
-use Rattle.bits.proofs.Laws.{length_spell, length_bits, number_spell}
+use Rattle.bits.proofs.Laws.{length_bits, number_spell}
 
 abbrev pub Bit : ℕ → Type 0
 Bit b = b < 2

@@ -1,5 +1,5 @@
 -- From a book that was read into lent memory to the file's own meaning.
-use Rattle.std.proofs.Common.{◌≡◌, ℕ, ◌+◌, ◌-◌, ◌<◌, ◌≤◌, leb, List, [], ◌∷◌, ◌++◌, map, length, get_or, take, drop, Ok, sum, sym, refl, ap, ◌∙◌, arith, length-append, length-drop, length-take-le, take_at, le-leb}
+use Rattle.std.proofs.Common.{◌≡◌, ℕ, ◌-◌, ◌<◌, ◌≤◌, leb, List, [], ◌∷◌, ◌++◌, map, length, get_or, take, drop, Ok, sum, sym, refl, ap, ◌∙◌, arith, length-append, length-drop, length-take-le, take_at, le-leb}
 use borrow.Author.Tests.{lt-leb}
 use Rattle.std.specs.List.{flat_map}
 use Rattle.std.proofs.lemmas.List.{length-map}

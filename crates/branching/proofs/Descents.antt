@@ -1,5 +1,5 @@
 -- Down into a branch: the propagated sets are taken over, and then the picked set is cut to the value.
-use Rattle.std.proofs.Common.{◌≡◌, ℕ, ◌+◌, ◌^◌, ◌<◌, ◌≤◌, List, [], ◌∷◌, length, get_or, set, sum, sym, refl, ap, ◌∙◌, subst, ap₂, arith}
+use Rattle.std.proofs.Common.{◌≡◌, ℕ, ◌^◌, ◌<◌, ◌≤◌, List, ◌∷◌, length, get_or, set, sum, sym, refl, ap, ◌∙◌, subst, ap₂, arith}
 use lib.Count.{ones}
 use Rattle.grammar.specs.Contents.{Contents}
 use Rattle.book.specs.Books.{contents}
@@ -9,12 +9,12 @@ use Rattle.values.proofs.Digits.{in_mod, in_lt}
 use Rattle.propagate.specs.Propagation.{Propagated}
 use Rattle.propagate.proofs.Books.{valid}
 use Rattle.trials.specs.Picks.{Picked}
-use Rattle.trials.specs.Trials.{Narrows, cut_to}
+use Rattle.trials.specs.Trials.{cut_to}
 use Rattle.trail.specs.declared.kinds.Branch.{Branch}
 use Rattle.trail.specs.declared.kinds.Saved.{Saved}
 use Rattle.trail.specs.declared.kinds.Side.TheVariants.{Left}
 use Rattle.trail.specs.Trails.{branch, saved, Saves}
-use Rattle.branching.specs.Frames.{Frame, on_left, frames, Spare, Paired}
+use Rattle.branching.specs.Frames.{Frame, on_left, frames, Paired}
 use Rattle.branching.proofs.Singles.{ones_of_one}
 use Rattle.branching.proofs.Smalls.{small_next}
 use Rattle.branching.proofs.Opened.{Same, same_saves, opened_as, paired_as, room_for, nested_length}

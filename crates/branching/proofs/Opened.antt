@@ -1,16 +1,15 @@
 -- Saves made and undone, under the frames.
-use Rattle.std.proofs.Common.{◌≡◌, ℕ, ◌+◌, ◌-◌, ◌<◌, ◌≤◌, List, [], ◌∷◌, length, get_or, drop, set, sum, sym, refl, ap, ◌∙◌, subst, ap₂, add-one, arith}
+use Rattle.std.proofs.Common.{◌≡◌, ℕ, ◌+◌, ◌-◌, ◌<◌, ◌≤◌, List, [], ◌∷◌, length, get_or, set, sum, sym, refl, ap, ◌∙◌, subst, ap₂, add-one, arith}
 use lib.Count.{ones}
-use Rattle.std.specs.List.{AllByRecursion as All}
 use Rattle.std.proofs.lemmas.List.{length-drop}
 use Rattle.std.proofs.ByRecursion.{All-drop}
 use Rattle.grammar.specs.Contents.{Contents}
 use Rattle.trials.specs.Picks.{Picked}
 use Rattle.trail.specs.declared.kinds.Branch.{Branch}
 use Rattle.trail.specs.declared.kinds.Saved.{Saved}
-use Rattle.trail.specs.Trails.{saved, undoing, since, until, total, Known, Saves, none, more, Closed}
+use Rattle.trail.specs.Trails.{saved, undoing, since, until, total, Saves, none, more, Closed}
 use Rattle.trail.proofs.Undone.{undoing_saved, since_none, until_none, until_cons, total_set}
-use Rattle.branching.specs.Frames.{Frame, frame, frames, Spare, Nested, Paired}
+use Rattle.branching.specs.Frames.{frame, frames, Spare, Nested, Paired}
 
 -- the same frames, by other saves and other sets
 pub record Same (c : Contents) (xs : List Branch) (ts : List Saved) (b : List ℕ) (us : List Saved) (d : List ℕ) : Type 0 where

@@ -1,12 +1,12 @@
 -- The steps of the search, on derivations.
-use Rattle.std.proofs.Common.{◌≡◌, ℕ, ◌+◌, ◌-◌, ◌<◌, ◌≤◌, Bool, true, false, List, [], ◌∷◌, length, Option, sym, refl, ap, ◌∙◌, subst}
+use Rattle.std.proofs.Common.{◌≡◌, ℕ, ◌+◌, true, false, List, [], ◌∷◌, Option, sym, refl, ap, ◌∙◌, subst}
 use Rattle.grammar.specs.Contents.{Contents}
 use Rattle.boxes.specs.declared.ValueBox.{ValueBox}
 use Rattle.reduce.proofs.Changes.{one_box}
 use Rattle.store.specs.Meaning.{Meaning, Told}
 use Rattle.trail.specs.declared.kinds.Branch.{Branch}
 use Rattle.trail.specs.declared.kinds.Side.TheVariants.{Left, Right}
-use Rattle.trials.specs.Trials.{Verdict, refuted, found, stopped, Over, Unspent, Narrows, Boxed, Branches, Trial, emptied, seen, left, right, both, cut_to, cut_from}
+use Rattle.trials.specs.Trials.{Verdict, refuted, Over, Unspent, Boxed, Branches, emptied, seen, left, right, both, cut_to, cut_from}
 use Rattle.branching.specs.Looks.{AtOnce, no_value, seen_box, Notes}
 use Rattle.branching.specs.Frames.{Frame, on_left, on_right, framed, frame, End, ends, Tried, Up, top, over, turn, close, Leads, Climbed}
 

@@ -1,5 +1,5 @@
 -- Sets of one value, and sets that lose one.
-use Rattle.std.proofs.Common.{◌≡◌, ℕ, ◌+◌, ◌-◌, ◌*◌, ◌/◌, ◌%◌, ◌^◌, ◌<◌, ◌≤◌, sym, refl, ap, ◌∙◌, mod-lt, add-mul, div-add-mod', arith}
+use Rattle.std.proofs.Common.{◌≡◌, ℕ, ◌+◌, ◌-◌, ◌*◌, ◌/◌, ◌%◌, ◌^◌, ◌<◌, sym, refl, ap, ◌∙◌, mod-lt, add-mul, div-add-mod', arith}
 use lib.Count.{ones, ones_cat, ones_step}
 use Rattle.std.proofs.lemmas.Nat.{pow_pos}
 use Rattle.values.specs.Members.{In}

@@ -1,5 +1,5 @@
 -- Propagated sets are small.
-use Rattle.std.proofs.Common.{ℕ, ◌%◌, ◌^◌, ◌<◌, ◌≤◌, List, length, get_or, sym, subst, mod-lt, arith, pow_mono}
+use Rattle.std.proofs.Common.{ℕ, ◌^◌, ◌<◌, ◌≤◌, List, length, get_or, sym, subst, mod-lt, arith, pow_mono}
 use Rattle.std.proofs.lemmas.Nat.{pow_pos}
 use Rattle.book.specs.Books.{contents}
 use Rattle.book.specs.declared.book.Book.{Book}

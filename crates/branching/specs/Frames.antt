@@ -1,15 +1,14 @@
 -- The trials that are open above the one at hand, as the two stacks hold them.
-use Rattle.std.specs.Prelude.{◌≡◌, ℕ, ◌+◌, ◌<◌, ◌≤◌, Bool, true, false, List, [], ◌∷◌, length, sum, Option}
+use Rattle.std.specs.Prelude.{ℕ, ◌+◌, ◌<◌, ◌≤◌, Bool, true, false, List, [], ◌∷◌, length, sum, Option}
 use Rattle.grammar.specs.Contents.{Contents}
-use Rattle.boxes.specs.declared.ValueBox.{ValueBox}
-use Rattle.store.specs.Meaning.{Meaning, Told}
+use Rattle.store.specs.Meaning.{Meaning}
 use Rattle.trail.specs.declared.kinds.Branch.{Branch}
 use Rattle.trail.specs.declared.kinds.Saved.{Saved}
 use Rattle.trail.specs.declared.kinds.Side.{Side}
 use Rattle.trail.specs.declared.kinds.Side.TheVariants.{Left, Right}
 use Rattle.trail.specs.Trails.{undoing, since, until, total, Known}
 use Rattle.trials.specs.Picks.{Picked}
-use Rattle.trials.specs.Trials.{Verdict, refuted, Over, Boxed, Trial, cut_from}
+use Rattle.trials.specs.Trials.{Verdict, refuted, Over, Trial, cut_from}
 use Rattle.branching.specs.Looks.{Notes}
 
 -- an open trial: its propagated sets and its pick, by which of its two trials is being made

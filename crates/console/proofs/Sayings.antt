@@ -1,10 +1,10 @@
 -- A line says a command exactly when the command is found in its parts.
-use Rattle.std.proofs.Common.{◌≡◌, ℕ, suc, ◌+◌, ◌-◌, ◌*◌, ◌<◌, ◌≤◌, Bool, true, false, cond, ◌&&◌, eqb, ltb, leb, ◌⊎◌, List, [], ◌∷◌, ◌++◌, length, get_or, Some, None, Option, sym, refl, ap, ◌∙◌, subst, inl, inr, append-nil, arith}
+use Rattle.std.proofs.Common.{◌≡◌, ℕ, ◌+◌, ◌≤◌, true, false, cond, ◌&&◌, eqb, leb, List, [], ◌∷◌, ◌++◌, length, Some, None, Option, sym, refl, ap, ◌∙◌, subst, inl, inr, append-nil, arith}
 use Rattle.std.proofs.lemmas.List.{length-append}
-use Rattle.std.proofs.lemmas.Bool.{cond-true, cond-false, cases_Bool, eqb-true, eq-eqb, ne_eqb, le-leb, leb-true, and_parts}
+use Rattle.std.proofs.lemmas.Bool.{cond-true, cond-false, cases_Bool, eqb-true, ne_eqb, le-leb, leb-true, and_parts}
 use Rattle.console.specs.declared.command.Command.{Command}
 use Rattle.console.specs.declared.command.Command.TheVariants.{Fix, Bar, WithdrawFix, WithdrawBar, Ask}
-use Rattle.console.specs.Grammar.{onto, parts, is_digit, all_digits, worth, numeral, before, numerals, decided, asked, ordered, saying, led, sentence, command}
+use Rattle.console.specs.Grammar.{onto, parts, is_digit, all_digits, worth, numeral, before, numerals, decided, asked, saying, sentence, command}
 use Rattle.console.specs.Form.{behind_blanks, WithThree, WithTwo, Says}
 use Rattle.console.proofs.Bridge.{parts_by}
 

@@ -1,5 +1,5 @@
 -- By induction over the commands: the sheet keeps what they leave standing, and the store holds dead boxes only.
-use Rattle.std.proofs.Common.{◌≡◌, ℕ, List, [], ◌∷◌, map, length, get_or, set, replicate, Some, None, Ok, Err, Option, Result, sym, refl, ◌∙◌, subst, length-set}
+use Rattle.std.proofs.Common.{◌≡◌, ℕ, List, ◌∷◌, map, length, Some, None, Ok, Err, Option, Result, sym, refl, ◌∙◌, subst, length-set}
 use Rattle.questions.specs.declared.question.Question.{Question}
 use Rattle.grammar.specs.Contents.{Contents, Valid}
 use Rattle.store.specs.Meaning.{Meaning, HoldsOnly}
@@ -7,7 +7,7 @@ use Rattle.trials.specs.Laws.{Dead}
 use Rattle.ask.specs.declared.kinds.Asked.{Asked}
 use Rattle.sheet.specs.declared.decision.Kind.{Kind}
 use Rattle.sheet.specs.Decisions.{makes, made, stands, withdraws, withdrawn}
-use Rattle.sheet.specs.Runs.{Call, Keeps, making, withdrawing, asking, standing}
+use Rattle.sheet.specs.Runs.{Call, making, withdrawing, asking, standing}
 use Rattle.sheet.proofs.Keeping.{keeps_makes, keeps_withdraws, keeps_new, known_parts}
 use Rattle.shared.specs.Asking.{AskedOn, refusal}
 use Rattle.shared.specs.Sharing.{After}

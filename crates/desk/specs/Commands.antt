@@ -8,7 +8,7 @@ use Rattle.sheet.specs.declared.decision.Kind.{Kind}
 use Rattle.sheet.specs.Decisions.{makes, made, withdraws, withdrawn}
 use Rattle.sheet.specs.Starts.{Standing}
 use Rattle.sheet.specs.Runs.{Call, making, withdrawing, asking}
-use Rattle.shared.specs.Asking.{askable, AskedOn, Promises}
+use Rattle.shared.specs.Asking.{AskedOn, Promises}
 use Rattle.console.specs.declared.command.Command.{Command}
 use Rattle.console.specs.declared.command.Command.TheVariants.{Fix, Bar, WithdrawFix, WithdrawBar, Ask}
 

@@ -1,5 +1,5 @@
 -- Writing fields in turns: what is written, with what is left to write, is all.
-use Rattle.std.proofs.Common.{◌≡◌, ℕ, ◌+◌, ◌-◌, ◌*◌, ◌^◌, ◌<◌, ◌≤◌, List, [], ◌∷◌, ◌++◌, length, drop, Some, None, Option, sym, refl, ap, ◌∙◌, subst, append_assoc, append-nil, add-zero, arith, length-append}
+use Rattle.std.proofs.Common.{◌≡◌, ℕ, ◌+◌, ◌-◌, ◌^◌, ◌<◌, ◌≤◌, List, [], ◌∷◌, ◌++◌, length, drop, Some, None, sym, refl, ap, ◌∙◌, subst, append_assoc, append-nil, arith, length-append}
 use Rattle.std.specs.List.{AllByRecursion as All}
 use Rattle.bits.specs.Bits.{spell}
 use Rattle.bits.specs.Ink.{inked, place}
@@ -10,7 +10,7 @@ use Rattle.fields.specs.Fields.{layout}
 use Rattle.draft.specs.Entries.{Entry}
 use Rattle.draft.specs.Encoding.{in_bits, code, spelt, FitsIn, Fit}
 use Rattle.draft.specs.Writing.{Ready, Wrote}
-use Rattle.draft.proofs.Spelling.{spelt_none, spelt_cons, spelt_append, length_spelt_append}
+use Rattle.draft.proofs.Spelling.{spelt_none, spelt_append, length_spelt_append}
 
 all_left : (xs ys : List Entry) → All Fit (xs ++ ys) → All Fit xs
 all_left [] ys a = tt

@@ -1,9 +1,9 @@
 -- The fields that a file answers are those whose bits it has.
-use Rattle.std.proofs.Common.{◌≡◌, ℕ, ◌+◌, ◌-◌, ◌*◌, ◌^◌, ◌<◌, ◌≤◌, true, cond, leb, List, [], ◌∷◌, ◌++◌, length, take, drop, Some, None, Ok, Option, sym, refl, ap, ◌∙◌, subst, append_assoc, append-nil, add-zero, mod-eq_of_lt, arith, length-append, length-drop, length-take-le, take-add, le-leb}
+use Rattle.std.proofs.Common.{◌≡◌, ℕ, ◌+◌, ◌-◌, ◌*◌, ◌≤◌, cond, List, [], ◌∷◌, ◌++◌, length, take, drop, Some, None, Ok, Option, sym, refl, ap, ◌∙◌, subst, append_assoc, add-zero, mod-eq_of_lt, arith, length-append, length-drop, length-take-le, take-add, le-leb}
 use Rattle.std.specs.List.{AllByRecursion as All}
 use Rattle.std.proofs.lemmas.List.{take_at, drop_at, drop-drop}
 use Rattle.std.proofs.ByRecursion.{All-take, All-drop}
-use Rattle.bits.specs.Bits.{spell, number, bits, value, field}
+use Rattle.bits.specs.Bits.{spell, number, bits, value}
 use Rattle.bits.proofs.Laws.{length_spell, length_bits, number_spell}
 use Rattle.bits.proofs.Packs.{Bit, all_bits, spell_number}
 use Rattle.fields.specs.declared.field.Field.{Field}

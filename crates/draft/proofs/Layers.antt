@@ -1,13 +1,13 @@
 -- The layers of a book, by the fields that each asks for.
-use Rattle.std.proofs.Common.{◌≡◌, ℕ, zero, suc, ◌+◌, ◌-◌, ◌%◌, ◌^◌, ◌<◌, ◌≤◌, min, true, List, [], ◌∷◌, ◌++◌, map, length, get_or, take, drop, Some, None, Ok, sum, Option, sym, refl, ap, ◌∙◌, subst, append_assoc, append-nil, arith, length-drop, pow_pos}
+use Rattle.std.proofs.Common.{◌≡◌, ℕ, zero, suc, ◌+◌, ◌-◌, ◌%◌, ◌<◌, ◌≤◌, List, [], ◌∷◌, ◌++◌, map, length, get_or, take, drop, Some, None, Ok, sum, Option, sym, refl, ap, ◌∙◌, subst, append_assoc, append-nil, arith, length-drop, pow_pos}
 use Rattle.std.specs.List.{flat_map, AllByRecursion as All}
 use Rattle.std.proofs.lemmas.List.{take-append-drop, nil_from_length, length-map}
 use Rattle.std.proofs.lemmas.List.Sums.{sum_by-cons}
 use Rattle.questions.specs.declared.question.Question.{Question}
 use Rattle.fields.specs.declared.field.Field.{Field}
-use Rattle.grammar.specs.Contents.{Table, Contents, Valid}
+use Rattle.grammar.specs.Contents.{Table, Contents}
 use Rattle.grammar.specs.Layout.{cut}
-use Rattle.source.specs.Readings.{Reading, Source, ask, and_then, next, give, within, each}
+use Rattle.source.specs.Readings.{Source, ask, and_then, next, give, within, each}
 use Rattle.grammar.specs.Grammar.{shape, shapes, member, scope, value, values, rises, row, rows, row_limit_of, heading, table, tables, letter, letters, counts, tail, book}
 use Rattle.source.proofs.Inversion.{ok_so, ask_so, then_so, next_so, within_so, each_so}
 use Rattle.grammar.proofs.Cuts.{cut_lengths}

@@ -1,18 +1,18 @@
 -- How many bits the fields of a book have together.
-use Rattle.std.proofs.Common.{◌≡◌, ℕ, zero, suc, ◌+◌, ◌-◌, ◌*◌, ◌/◌, ◌%◌, ◌^◌, ◌<◌, ◌≤◌, List, [], ◌∷◌, ◌++◌, map, length, get_or, Some, None, sum_by, sum, Option, sym, refl, ap, ◌∙◌, subst, mul-zero, mul-one, mul-add, arith, length-append}
+use Rattle.std.proofs.Common.{◌≡◌, ℕ, ◌+◌, ◌-◌, ◌*◌, ◌/◌, ◌%◌, ◌≤◌, List, [], ◌∷◌, ◌++◌, map, length, Some, sum_by, sum, sym, refl, ap, ◌∙◌, mul-zero, mul-one, mul-add, arith, length-append}
 use Rattle.std.specs.List.{flat_map, AllByRecursion as All}
 use Rattle.std.proofs.lemmas.List.{length-map}
 use Rattle.std.proofs.lemmas.Nat.{mul-le}
-use Rattle.std.proofs.ByRecursion.{All-from_get_or, sum_by_le}
+use Rattle.std.proofs.ByRecursion.{All-from_get_or}
 use Rattle.std.proofs.lemmas.List.Sums.{sum_by-cons}
 use Rattle.bits.proofs.Laws.{length_spell}
 use Rattle.fields.specs.declared.field.Field.{Field}
 use Rattle.grammar.specs.Contents.{Table, Contents, ValidTable, Valid}
 use Rattle.fields.specs.Fields.{layout}
-use Rattle.draft.specs.Entries.{Entry, numbered, option_fields, row_fields, table_fields, tables_fields, count_fields, tail_fields, fields}
+use Rattle.draft.specs.Entries.{numbered, option_fields, row_fields, table_fields, tables_fields, count_fields, tail_fields, fields}
 use Rattle.draft.specs.Encoding.{in_bits, code, spelt, Fit}
 use Rattle.draft.specs.Lengths.{table_bits_of, file_bits, file_length_of}
-use Rattle.draft.proofs.Spelling.{spelt_append, length_spelt_append}
+use Rattle.draft.proofs.Spelling.{length_spelt_append}
 
 pub code_long : (f : Field) (v at w a : ℕ) → layout f at ≡ Some (w, a) → length (code (f, v) at) ≡ w
 code_long f v at w a e = ap (λ l. length (in_bits v l)) e ∙ length_spell w (v - a)

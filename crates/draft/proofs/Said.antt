@@ -1,9 +1,8 @@
 -- What a source was asked and answered in a reading, and that whoever answers the same gives the same.
-use Rattle.std.proofs.Common.{◌≡◌, ℕ, zero, suc, ◌+◌, ◌<◌, ◌≤◌, Bool, true, false, cond, ltb, leb, List, [], ◌∷◌, ◌++◌, length, Ok, Err, Result, sym, refl, ap, ◌∙◌, subst, append_assoc, arith, lt-ltb, le-leb}
+use Rattle.std.proofs.Common.{◌≡◌, ℕ, zero, suc, ◌<◌, ◌≤◌, true, false, cond, List, [], ◌∷◌, ◌++◌, Ok, sym, refl, ap, ◌∙◌, subst, append_assoc, arith, lt-ltb, le-leb}
 use Rattle.std.specs.List.{AllByRecursion as All}
 use Rattle.std.proofs.ByRecursion.{All-append}
 use Rattle.fields.specs.declared.field.Field.{Field}
-use Rattle.fields.specs.declared.field.Fault.{Fault}
 use Rattle.fields.specs.Fields.{asked}
 use Rattle.source.specs.Readings.{Reading, Source, ask, and_then, next, give, between, within, each}
 use Rattle.source.proofs.Inversion.{ok_so, next_so, within_so}

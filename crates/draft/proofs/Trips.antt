@@ -1,5 +1,5 @@
 -- Reading and writing undo each other.
-use Rattle.std.proofs.Common.{◌≡◌, ℕ, ◌+◌, ◌-◌, ◌*◌, ◌/◌, ◌%◌, ◌<◌, ◌≤◌, true, leb, List, [], ◌∷◌, ◌++◌, map, length, take, Ok, Err, Result, sym, refl, ap, ◌∙◌, subst, arith, le-leb}
+use Rattle.std.proofs.Common.{◌≡◌, ℕ, ◌+◌, ◌-◌, ◌*◌, ◌/◌, ◌≤◌, leb, List, [], ◌∷◌, ◌++◌, map, length, Ok, refl, ap, ◌∙◌, arith, le-leb}
 use Rattle.std.specs.List.{AllByRecursion as All}
 use Rattle.std.proofs.lemmas.List.{take_all}
 use Rattle.bits.specs.Bits.{bits}
@@ -9,18 +9,18 @@ use Rattle.bits.proofs.Packs.{bits_packed, packed_bits, length_bytes}
 use Rattle.questions.specs.declared.question.Question.{Question}
 use Rattle.fields.specs.declared.field.Field.{Field}
 use Rattle.grammar.specs.Contents.{Contents, Valid}
-use Rattle.source.specs.Readings.{Source, ask, and_then}
+use Rattle.source.specs.Readings.{ask, and_then}
 use Rattle.grammar.specs.Grammar.{book}
 use Rattle.source.specs.Files.{in_file}
 use Rattle.book.specs.Parse.{parse, row_count}
 use Rattle.source.proofs.Inversion.{ok_so, ask_so, then_so}
 use Rattle.grammar.proofs.ValidBooks.{book_valid}
-use Rattle.draft.specs.Entries.{Entry, count_fields, option_fields, tables_fields, tail_fields, fields}
+use Rattle.draft.specs.Entries.{Entry, option_fields, fields}
 use Rattle.draft.specs.Encoding.{spelt, encode, Fit}
 use Rattle.draft.specs.Lengths.{file_length_of}
 use Rattle.draft.specs.Trip.{There, Back}
 use Rattle.draft.proofs.Spelling.{all_spelt}
-use Rattle.draft.proofs.Said.{Answered, answered_append, answered_split, ended}
+use Rattle.draft.proofs.Said.{answered_append, answered_split, ended}
 use Rattle.draft.proofs.FileFields.{file_answers, file_spells}
 use Rattle.draft.proofs.Layers.{book_whole}
 use Rattle.draft.proofs.Long.{fields_long, file_short}

@@ -1,5 +1,5 @@
 -- From a draft whose contents were read into lent memory to what is written for it.
-use Rattle.std.proofs.Common.{◌≡◌, ℕ, ◌+◌, ◌-◌, ◌*◌, ◌<◌, ◌≤◌, List, [], ◌∷◌, ◌++◌, map, length, take, drop, Ok, Err, sum, Result, sym, refl, ap, ◌∙◌, subst, arith, length-take-le}
+use Rattle.std.proofs.Common.{◌≡◌, ℕ, ◌-◌, ◌≤◌, List, map, length, take, drop, Ok, Err, sum, Result, sym, ap, ◌∙◌, arith, length-take-le}
 use native.Mathlib.Nat.{sub-zero}
 use Rattle.std.specs.List.{AllByRecursion as All}
 use Rattle.std.proofs.lemmas.List.{take-append-drop}
@@ -7,9 +7,9 @@ use Rattle.fields.specs.declared.field.Fault.{Fault}
 use Rattle.grammar.specs.declared.index.Index.{Index}
 use Rattle.grammar.specs.Contents.{Contents, Valid}
 use Rattle.grammar.specs.Layout.{Indexed, cut, contents_of, table_of}
-use Rattle.source.specs.Readings.{Source, ask, and_then}
+use Rattle.source.specs.Readings.{and_then}
 use Rattle.grammar.specs.Grammar.{book}
-use Rattle.book.specs.Parse.{parse, row_count}
+use Rattle.book.specs.Parse.{parse}
 use Rattle.grammar.proofs.Cuts.{cut_front}
 use Rattle.grammar.proofs.ValidBooks.{book_valid}
 use Rattle.draft.specs.Drafts.{in_draft}

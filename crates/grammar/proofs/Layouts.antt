@@ -6,7 +6,6 @@ use Rattle.std.specs.List.{AllByRecursion as All, flat_map}
 use Rattle.std.proofs.lemmas.List.{drop-take, take_more_set, flat_map_more, length-map}
 use Rattle.std.proofs.ByRecursion.{All-push, All-weaker}
 use Rattle.std.proofs.lemmas.Slice.{take-put_mid, between-put_mid}
-use Rattle.grammar.specs.Contents.{Table}
 use Rattle.grammar.specs.Layout.{Headed, Laid, table_of, padded, Padded, laid}
 use Rattle.grammar.specs.declared.index.TableIndex.{TableIndex}
 

@@ -1,8 +1,7 @@
 -- Rows that rise are all different.
-use Rattle.std.proofs.Common.{◌≡◌, ℕ, zero, suc, ◌+◌, ◌<◌, Bool, true, false, cond, eqb, ltb, List, [], ◌∷◌, length, get_or, Some, None, Option, sym, refl, ap, ◌∙◌, subst, ⊎_elim, arith, ltb-true, lt-ltb, eq-eqb, ne_eqb, eqb-true}
-use borrow.Author.Tests.{eqb-false, clash}
+use Rattle.std.proofs.Common.{◌≡◌, ℕ, zero, suc, ◌<◌, Bool, true, false, cond, eqb, ltb, List, [], ◌∷◌, length, get_or, Some, Option, sym, refl, ap, ◌∙◌, subst, arith, ltb-true, lt-ltb, eq-eqb, ne_eqb, eqb-true}
+use borrow.Author.Tests.{clash}
 use Rattle.grammar.specs.Grammar.{before, rises}
-use Rattle.source.proofs.Inversion.{Chain}
 
 -- how the first of two rows came before the other: by its first value, or behind the same first value
 before_cases : {P : Type 0} (x y : ℕ) (xs ys : List ℕ) → before (x ∷ xs) (y ∷ ys) ≡ true → (x < y → P) → (x ≡ y → before xs ys ≡ true → P) → P

@@ -3,14 +3,14 @@ use Rattle.std.proofs.Common.{◌≡◌, ℕ, zero, suc, ◌%◌, ◌^◌, ◌<�
 use lib.Pow.{pow-lt}
 use Rattle.std.specs.List.{AllByRecursion as All}
 use Rattle.std.proofs.lemmas.List.{get_or-take, length-take-le}
-use Rattle.grammar.specs.Contents.{Table, Contents, Listed, on_scope, Fit, ValidTable, Valid}
+use Rattle.grammar.specs.Contents.{Table, Contents, Listed, on_scope, ValidTable, Valid}
 use Rattle.values.specs.Members.{In}
 use Rattle.values.proofs.Digits.{in_one}
 use Rattle.propagate.specs.Sets.{Sets, sets_of}
 use Rattle.propagate.proofs.Books.{size_most}
 use Rattle.propagate.proofs.Fits.{live_on, single_row}
 use Rattle.reduce.specs.Universal.{Universal, UniversalAt}
-use Rattle.sheet.specs.Starts.{Standing, Starts, MeetsAll, Leaves}
+use Rattle.sheet.specs.Starts.{Standing, Starts, Leaves}
 use Rattle.order.specs.Issues.{Issues}
 
 abbrev no_table : Table

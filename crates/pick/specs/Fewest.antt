@@ -1,5 +1,5 @@
 -- The option with the fewest values, among the first options.
-use Rattle.std.specs.Prelude.{◌≡◌, ℕ, ◌<◌, ◌≤◌, List}
+use Rattle.std.specs.Prelude.{ℕ, ◌<◌, ◌≤◌, List}
 use Rattle.trials.specs.Picks.{size_at}
 
 -- none of the first m options has two values

@@ -1,15 +1,15 @@
 -- From the array that the rounds work on to what propagation promises of the array that it was given.
-use Rattle.std.proofs.Common.{◌≡◌, ℕ, ◌+◌, ◌-◌, ◌%◌, ◌^◌, ◌<◌, ◌≤◌, ◌⊎◌, List, [], ◌∷◌, length, get_or, sym, refl, ap, ◌∙◌, subst, inl, inr, mod-eq_of_lt, arith}
+use Rattle.std.proofs.Common.{◌≡◌, ℕ, ◌-◌, ◌%◌, ◌^◌, ◌<◌, ◌≤◌, List, [], ◌∷◌, length, get_or, sym, refl, ap, ◌∙◌, subst, inl, inr, mod-eq_of_lt, arith}
 use Rattle.std.specs.List.{AllByRecursion as All}
 use Rattle.std.proofs.lemmas.List.{get_or_past}
 use Rattle.std.proofs.lemmas.Bool.{cases_lt}
 use Rattle.grammar.specs.Contents.{Table, Contents, ValidTable, Valid}
 use Rattle.values.specs.Members.{In}
 use Rattle.propagate.specs.Sets.{Sets, Inside, placed, sets_of}
-use Rattle.propagate.specs.Support.{Upheld, Closed}
-use Rattle.propagate.specs.Propagation.{Largest, Propagated, LeavesNone, Settled}
+use Rattle.propagate.specs.Support.{Closed}
+use Rattle.propagate.specs.Propagation.{Propagated, LeavesNone, Settled}
 use Rattle.propagate.specs.Steps.{Trimmed, Reached}
-use Rattle.values.proofs.Digits.{in_zero, in_mod, below_from_values, full_in}
+use Rattle.values.proofs.Digits.{in_mod, below_from_values, full_in}
 use Rattle.propagate.proofs.Cuts.{upheld_like}
 
 -- an option that the book lacks has no value

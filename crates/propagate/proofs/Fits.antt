@@ -1,18 +1,17 @@
 -- Propagation and the fits of a book.
-use Rattle.std.proofs.Common.{◌≡◌, ℕ, suc, ◌^◌, ◌<◌, ◌≤◌, ◌⊎◌, List, [], ◌∷◌, map, length, get_or, sym, refl, ap, ◌∙◌, subst, ap₂, inl, inr, arith}
-use Rattle.std.specs.List.{AllZip, AllByRecursion as All}
+use Rattle.std.proofs.Common.{◌≡◌, ℕ, suc, ◌^◌, ◌<◌, List, [], ◌∷◌, map, length, get_or, sym, refl, ◌∙◌, subst, ap₂, inl, inr, arith}
+use Rattle.std.specs.List.{AllByRecursion as All}
 use Rattle.std.proofs.lemmas.List.{get_or-map, get_or_past, length-map, ext_get_or}
 use Rattle.std.proofs.lemmas.Bool.{cases_lt}
 use Rattle.grammar.specs.Contents.{Table, Contents, Listed, on_scope, Fit, ValidTable, Valid}
 use Rattle.values.specs.Members.{In}
 use Rattle.propagate.specs.Sets.{Sets, Inside, sets_of}
 use Rattle.propagate.specs.Support.{Live, Upheld, Closed}
-use Rattle.propagate.specs.Propagation.{Largest, Propagated, LeavesNone, Ends}
+use Rattle.propagate.specs.Propagation.{Propagated, LeavesNone, Ends}
 use Rattle.propagate.specs.Laws.{Within, LosesNoFit, EndsOneWay, EmptiedWhereEmpty, SingleSetsFit}
 use Rattle.propagate.specs.declared.outcome.Outcome.{Outcome}
 use Rattle.propagate.specs.declared.outcome.Outcome.TheVariants.{Narrowed, Emptied}
 use Rattle.values.proofs.Digits.{in_one, in_one_only, in_zero, in_mod, no_values, same_from_values}
-use Rattle.propagate.proofs.Ends.{none_past}
 
 -- the sets of one value each
 abbrev single : List ℕ → Sets

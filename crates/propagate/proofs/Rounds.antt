@@ -1,15 +1,14 @@
 -- A round over the tables.
-use Rattle.std.proofs.Common.{◌≡◌, ℕ, zero, suc, ◌+◌, ◌<◌, ◌≤◌, min, ◌⊎◌, List, [], ◌∷◌, ◌++◌, length, get_or, sum, sym, refl, ap, ◌∙◌, subst, inl, inr, arith}
+use Rattle.std.proofs.Common.{◌≡◌, ℕ, zero, suc, ◌+◌, ◌≤◌, min, List, [], ◌∷◌, ◌++◌, length, get_or, sym, refl, ◌∙◌, subst, inl, inr, arith}
 use lib.Bits.{bit_or}
-use Rattle.std.specs.List.{AllByRecursion as All}
 use Rattle.std.proofs.ByRecursion.{All-push, All-weaker}
 use Rattle.grammar.specs.Contents.{Table, Contents}
 use Rattle.values.specs.Members.{In}
-use Rattle.propagate.specs.Sets.{Sets, Inside, placed}
+use Rattle.propagate.specs.Sets.{Sets, placed}
 use Rattle.propagate.specs.Support.{Mentions, Upheld, Closed}
 use Rattle.propagate.specs.Propagation.{Avoids, Settled}
-use Rattle.propagate.specs.Steps.{Cut, Revised, Rounded}
-use Rattle.values.proofs.Digits.{in_either, in_or, in_zero, in_ge, no_values}
+use Rattle.propagate.specs.Steps.{Cut, Revised}
+use Rattle.values.proofs.Digits.{in_either, in_or, in_zero, no_values}
 use Rattle.propagate.proofs.Cuts.{upheld_like}
 
 -- the round after the tables `done`

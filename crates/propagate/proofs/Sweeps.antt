@@ -1,13 +1,13 @@
 -- Round after round.
-use Rattle.std.proofs.Common.{◌≡◌, ℕ, ◌<◌, ◌≤◌, Bool, true, false, not, List, length, get_or, Decides, MatchBool, sym, refl, ◌∙◌, subst, inl, inr, arith}
+use Rattle.std.proofs.Common.{◌≡◌, ℕ, ◌<◌, ◌≤◌, Bool, true, false, not, List, length, get_or, Decides, MatchBool, refl, ◌∙◌, subst, inl, inr, arith}
 use Rattle.std.proofs.ByRecursion.{All-weaker}
 use Rattle.std.proofs.lemmas.Bool.{cases_eq, false≢true}
 use Rattle.grammar.specs.Contents.{Contents}
 use Rattle.values.specs.Members.{In}
 use Rattle.propagate.specs.Sets.{Sets, Inside, placed}
 use Rattle.propagate.specs.Support.{Upheld, Closed}
-use Rattle.propagate.specs.Propagation.{Largest, LeavesNone, Avoids, Settled}
-use Rattle.propagate.specs.Steps.{Cut, Rounded, Reached}
+use Rattle.propagate.specs.Propagation.{LeavesNone, Avoids, Settled}
+use Rattle.propagate.specs.Steps.{Rounded, Reached}
 use Rattle.values.proofs.Digits.{in_zero}
 
 -- nothing was put in, nothing that closed sets have was taken away, and these options are left to look at

@@ -1,7 +1,7 @@
 -- Live rows, and the values that have support.
 use Rattle.std.specs.Prelude.{◌≡◌, ℕ, ◌/◌, ◌%◌, ◌^◌, ◌<◌, Bool, true, false, ◌&&◌, List, [], ◌∷◌, length, ◌==◌, slice_index}
 use Rattle.std.specs.List.{AllZip, AllByRecursion as All}
-use Rattle.grammar.specs.Contents.{Table, Contents, Listed}
+use Rattle.grammar.specs.Contents.{Table, Listed}
 use Rattle.values.specs.Members.{In}
 use Rattle.propagate.specs.Sets.{Sets}
 

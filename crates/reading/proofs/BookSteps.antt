@@ -1,7 +1,7 @@
 -- A book is its counts, its options, its tables and its names.
 use Rattle.std.proofs.Common.{◌≡◌, ℕ, List, ◌++◌, length, Ok, Err, sum, Result, sym, refl, ap, ◌∙◌, arith}
 use Rattle.fields.specs.declared.field.Fault.{Fault}
-use Rattle.grammar.specs.Contents.{Table, Contents}
+use Rattle.grammar.specs.Contents.{Table}
 use Rattle.grammar.specs.Layout.{cut}
 use Rattle.source.specs.Readings.{Source, and_then, next, give, told}
 use Rattle.grammar.specs.Grammar.{counts, shapes, tables, tail, book}

@@ -1,22 +1,22 @@
 -- A fit that meets a box, changed at options that no table binds, lies inside the sets of the box.
-use Rattle.std.proofs.Common.{◌≡◌, ℕ, zero, suc, ◌+◌, ◌/◌, ◌%◌, ◌^◌, ◌<◌, ◌≤◌, Bool, true, false, cond, eqb, ◌⊎◌, List, [], ◌∷◌, map, length, get_or, sym, refl, ap, ◌∙◌, subst, ap₂, inl, inr, mod-lt, arith, pow_pos}
+use Rattle.std.proofs.Common.{◌≡◌, ℕ, zero, suc, ◌/◌, ◌%◌, ◌^◌, ◌<◌, Bool, true, false, cond, ◌⊎◌, List, [], ◌∷◌, map, length, get_or, sym, refl, ap, ◌∙◌, subst, ap₂, inl, inr, mod-lt, arith, pow_pos}
 use lib.Count.{count_trailing_zeros}
-use Rattle.std.specs.List.{range_with_len, AllByRecursion as All}
+use Rattle.std.specs.List.{range_with_len}
 use Rattle.std.proofs.lemmas.List.FromFn.{length-map-range_with_len, get_or-map-range_with_len}
 use Rattle.std.proofs.ByRecursion.{All-get_or, All-from_get_or}
 use Rattle.std.proofs.lemmas.List.{ext_get_or}
-use Rattle.std.proofs.lemmas.Bool.{cases_lt, cases_eq, true≢false}
+use Rattle.std.proofs.lemmas.Bool.{cases_lt, cases_eq}
 use Rattle.std.proofs.lemmas.Bool.Decides.{Decides-eqb}
 use Rattle.grammar.specs.Contents.{Table, Contents, Listed, on_scope, Fit, ValidTable, Valid}
 use Rattle.values.specs.Members.{In}
-use Rattle.propagate.specs.Sets.{Sets, sets_of}
+use Rattle.propagate.specs.Sets.{sets_of}
 use Rattle.propagate.specs.Support.{is_in}
 use Rattle.propagate.specs.Propagation.{Propagated}
 use Rattle.propagate.specs.Laws.{Within}
 use Rattle.values.proofs.Digits.{in_mod, trailing_member}
 use Rattle.propagate.proofs.Fits.{live_on}
 use Rattle.reduce.specs.Universal.{Universal, Free}
-use Rattle.reduce.specs.Boxes.{Whole, LeftOut, BoxOf, Meets}
+use Rattle.reduce.specs.Boxes.{LeftOut, BoxOf, Meets}
 use Rattle.reduce.specs.Laws.{NonEmpty, HasFit, OneBox, InsideMeets, DeadBox, EqualBoxes}
 
 -- ---- whether a row is listed

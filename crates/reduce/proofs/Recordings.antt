@@ -1,12 +1,12 @@
 -- The loop that records option after option.
-use Rattle.std.proofs.Common.{◌≡◌, ℕ, ◌+◌, ◌/◌, ◌%◌, ◌^◌, ◌<◌, ◌≤◌, ◌⊎◌, List, length, get_or, set, replicate, sym, refl, ap, ◌∙◌, subst, inl, inr, arith}
+use Rattle.std.proofs.Common.{◌≡◌, ℕ, ◌+◌, ◌/◌, ◌%◌, ◌^◌, ◌<◌, ◌≤◌, List, length, get_or, set, replicate, sym, refl, ap, ◌∙◌, subst, inl, inr, arith}
 use Rattle.std.proofs.lemmas.List.{get_or-set_same, get_or-set_other, get_or-replicate, get_or_past, length-replicate, length-set}
 use Rattle.std.proofs.lemmas.Bool.{cases_lt, cases_eq}
 use Rattle.grammar.specs.Contents.{Contents, Valid}
 use Rattle.values.specs.Members.{In}
-use Rattle.propagate.specs.Sets.{Sets, placed, sets_of}
+use Rattle.propagate.specs.Sets.{placed, sets_of}
 use Rattle.propagate.specs.Steps.{Trimmed}
-use Rattle.reduce.specs.Boxes.{Whole, LeftOut, BoxOf}
+use Rattle.reduce.specs.Boxes.{Whole, BoxOf}
 use Rattle.reduce.specs.Steps.{Binds, Records}
 use Rattle.reduce.proofs.Bindings.{free_like}
 

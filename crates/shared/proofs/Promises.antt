@@ -1,21 +1,19 @@
 -- From an ask over the starting sets to what it promises where decisions stand.
-use Rattle.std.proofs.Common.{◌≡◌, ℕ, ◌<◌, ◌≤◌, true, ◌⊎◌, List, length, get_or, Some, Option, sym, refl, ap, ◌∙◌, subst, inl, inr, ⊎_elim, arith}
+use Rattle.std.proofs.Common.{◌≡◌, ℕ, ◌<◌, ◌≤◌, true, List, length, get_or, Some, sym, ◌∙◌, subst, ⊎_elim, arith}
 use Rattle.std.proofs.lemmas.List.{same_lists, get_or_default}
 use Rattle.std.proofs.lemmas.Bool.{cases_lt}
 use Rattle.grammar.specs.Contents.{Contents, Fit, Valid}
-use Rattle.values.specs.Members.{In}
 use Rattle.values.proofs.Digits.{in_mod, mod_in, same_from_values}
 use Rattle.propagate.specs.Laws.{Within}
-use Rattle.reduce.specs.Laws.{HasFit}
 use Rattle.store.specs.Meaning.{Meaning, HoldsOnly}
 use Rattle.trials.specs.Trials.{Verdict, refuted, found, stopped, Asks, Plain}
-use Rattle.trials.specs.Laws.{Dead, Agrees, Right}
+use Rattle.trials.specs.Laws.{Dead, Right}
 use Rattle.trials.proofs.PlainEnds.{plain_ends, answers_are_right_lem}
 use Rattle.trials.proofs.Remembering.{memory_loses_no_fit_lem}
 use Rattle.sheet.specs.declared.decision.Kind.{Kind}
 use Rattle.sheet.specs.Decisions.{is_person}
 use Rattle.sheet.specs.Starts.{Standing, ByAny, Leaves, Starts, MeetsAll}
-use Rattle.shared.specs.Sharing.{RightFor, AgreesWith, Promised}
+use Rattle.shared.specs.Sharing.{RightFor, Promised}
 
 some_so : {a b : ℕ} → Some a ≡ Some b → b ≡ a
 some_so e = cc

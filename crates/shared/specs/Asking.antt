@@ -1,5 +1,5 @@
 -- The questions of an ask on a shared sheet, and what it leaves.
-use Rattle.std.specs.Prelude.{◌≡◌, ℕ, Bool, true, false, ◌&&◌, List, length, take, Some, Ok, Err, sum, Result, nat_le}
+use Rattle.std.specs.Prelude.{◌≡◌, ℕ, ◌&&◌, List, length, take, Some, Ok, Err, sum, Result, nat_le}
 use Rattle.questions.specs.declared.question.Question.{Question}
 use Rattle.grammar.specs.Contents.{Contents}
 use Rattle.store.specs.Meaning.{Meaning}

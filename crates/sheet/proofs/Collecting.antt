@@ -1,6 +1,5 @@
 -- The values below a number that have a property, collected one by one into a set; and the sets of options, one by one.
-use Rattle.std.proofs.Common.{◌≡◌, ℕ, ◌+◌, ◌^◌, ◌<◌, ◌≤◌, ◌≢◌, ◌⊎◌, List, length, get_or, set, sym, refl, ap, ◌∙◌, subst, inl, inr, ⊎_elim, arith, get_or-set_other, get_or-set_same, below_more}
-use native.Mathlib.Decide.{dec_lt}
+use Rattle.std.proofs.Common.{◌≡◌, ℕ, ◌+◌, ◌^◌, ◌<◌, ◌⊎◌, sym, subst, inl, inr, ⊎_elim, arith, below_more}
 use lib.Bits.{bit_or}
 use Rattle.values.specs.Members.{In}
 use Rattle.values.proofs.Digits.{in_either, in_or, in_one, in_one_only}

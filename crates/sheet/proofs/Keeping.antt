@@ -1,9 +1,9 @@
 -- A sheet keeps what stands, call after call.
-use Rattle.std.proofs.Common.{◌≡◌, ℕ, zero, suc, ◌+◌, ◌-◌, ◌*◌, ◌/◌, ◌%◌, ◌^◌, ◌<◌, ◌≤◌, Bool, true, false, cond, not, ◌&&◌, ◌||◌, eqb, ltb, leb, ◌≢◌, ◌⊎◌, List, [], ◌∷◌, length, get_or, set, replicate, Ok, Err, Result, sym, refl, ap, ◌∙◌, subst, inl, inr, ⊎_elim, arith, get_or-set_other, get_or-set_same, ltb-true, eq-eqb, eqb-true}
+use Rattle.std.proofs.Common.{◌≡◌, ℕ, ◌/◌, ◌%◌, ◌^◌, ◌<◌, ◌≤◌, Bool, true, false, not, ◌&&◌, ◌||◌, eqb, ltb, List, [], ◌∷◌, length, get_or, set, replicate, Ok, Result, sym, refl, ap, ◌∙◌, subst, inl, inr, ⊎_elim, arith, get_or-set_other, get_or-set_same, ltb-true, eq-eqb, eqb-true}
 use lib.Bits.{bit_or, bit_xor}
 use borrow.Author.Tests.{clash}
 use Rattle.std.proofs.lemmas.List.{get_or-replicate}
-use Rattle.std.proofs.lemmas.Bool.{and_parts, and_from, cases_eq, cases_Bool, not-true, both_ways}
+use Rattle.std.proofs.lemmas.Bool.{and_parts, and_from, cases_eq, not-true, both_ways}
 use Rattle.questions.specs.declared.question.Question.{Question}
 use Rattle.grammar.specs.Contents.{Contents}
 use Rattle.book.specs.Books.{contents}
@@ -13,7 +13,7 @@ use Rattle.values.specs.Members.{In}
 use Rattle.values.proofs.Digits.{in_either, in_or, in_one, in_one_only, in_zero, in_out, out_in}
 use Rattle.sheet.specs.declared.decision.Kind.{Kind}
 use Rattle.sheet.specs.declared.decision.Kind.TheVariants.{Fix, Bar}
-use Rattle.sheet.specs.Decisions.{place_of, stands, is_person, ask, known, makes, withdraws, made, withdrawn}
+use Rattle.sheet.specs.Decisions.{place_of, stands, is_person, ask, makes, withdraws, made, withdrawn}
 use Rattle.sheet.specs.Runs as runs
 use Rattle.sheet.specs.Runs.{Call, same, is_same_kind, is_known, standing, Keeps}
 use Rattle.sheet.proofs.Unions.{person_cases}

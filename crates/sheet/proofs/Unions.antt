@@ -1,9 +1,9 @@
 -- Sets of values about which one person or the other has decided.
-use Rattle.std.proofs.Common.{◌≡◌, ℕ, zero, suc, ◌/◌, ◌%◌, ◌^◌, ◌<◌, ◌≤◌, Bool, true, false, cond, eqb, leb, ◌⊎◌, List, get_or, sym, refl, ap, ◌∙◌, subst, inl, inr, ⊎_elim, arith, eq-eqb, eqb-true, leb-true}
+use Rattle.std.proofs.Common.{◌≡◌, ℕ, zero, suc, ◌/◌, ◌%◌, ◌^◌, Bool, true, false, cond, leb, ◌⊎◌, List, get_or, sym, refl, ap, ◌∙◌, subst, inl, inr, ⊎_elim, arith, eq-eqb, eqb-true, leb-true}
 use lib.Bits.{bit_or}
 use borrow.Author.Tests.{clash}
 use Rattle.values.specs.Members.{In}
-use Rattle.values.proofs.Digits.{in_zero, in_one_only, in_either, in_or, no_values, same_from_values, in_one}
+use Rattle.values.proofs.Digits.{in_one_only, in_either, in_or, no_values, same_from_values, in_one}
 use Rattle.sheet.specs.declared.decision.Kind.{Kind}
 use Rattle.sheet.specs.Decisions.{place_of, stands, is_person}
 use Rattle.sheet.specs.Starts.{ByAny}

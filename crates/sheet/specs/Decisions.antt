@@ -1,5 +1,5 @@
 -- The decisions that stand on a sheet, and the questions that making and withdrawing one asks.
-use Rattle.std.specs.Prelude.{ℕ, ◌+◌, ◌-◌, ◌*◌, ◌^◌, Bool, true, false, cond, not, List, length, set, Ok, Err, Result, bit_or, bit_xor, nat_le, nat_lt, slice_index, slice_set}
+use Rattle.std.specs.Prelude.{ℕ, ◌+◌, ◌-◌, ◌*◌, ◌^◌, Bool, true, false, cond, not, List, length, Ok, Err, Result, bit_or, bit_xor, nat_le, nat_lt, slice_index, slice_set}
 use Rattle.questions.specs.declared.question.Question.{Question}
 use Rattle.grammar.specs.Contents.{Contents}
 use Rattle.propagate.specs.Support.{is_in}

@@ -2,7 +2,7 @@
 use Rattle.std.proofs.Common.{◌≡◌, ℕ, zero, suc, ◌+◌, ◌-◌, ◌<◌, ◌≤◌, List, [], ◌∷◌, ◌++◌, Ok, Err, Result, sym, refl, ap, ◌∙◌, append_assoc, append-nil, arith}
 use native.Mathlib.Nat.{sub-zero}
 use Rattle.fields.specs.declared.field.Fault.{Fault}
-use Rattle.source.specs.Readings.{Reading, Source, and_then, next, give, each, told}
+use Rattle.source.specs.Readings.{Reading, Source, and_then, each, told}
 
 -- what is read, behind what was read before
 abbrev pub behind : {X : Type 0} → List X → Result (List X × ℕ) Fault → Result (List X × ℕ) Fault

@@ -5,7 +5,7 @@ use Rattle.questions.specs.declared.question.Question.{Question}
 use Rattle.fields.specs.declared.field.Field.{Field}
 use Rattle.fields.specs.declared.field.Fault.{Fault}
 use Rattle.fields.specs.Fields.{asked}
-use Rattle.source.specs.Readings.{Reading, Source, ask, and_then, next, give, between, within, each}
+use Rattle.source.specs.Readings.{Reading, Source, ask, and_then, next, between, within, each}
 
 pub ok_so : {X : Type 0} {x y : X} → ◌≡◌ {A = Result X Fault} (Ok x) (Ok y) → x ≡ y
 ok_so e = cc

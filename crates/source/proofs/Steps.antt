@@ -1,5 +1,5 @@
 -- What a call that reads has answered, as a step of what is read from the source with which the caller began.
-use Rattle.std.proofs.Common.{◌≡◌, ℕ, Ok, Err, Result, sym, refl, ap, ◌∙◌}
+use Rattle.std.proofs.Common.{◌≡◌, ℕ, Ok, Result, sym, ap, ◌∙◌}
 use Rattle.fields.specs.declared.field.Fault.{Fault}
 use Rattle.source.specs.Readings.{Reading, Source, and_then, next, told}
 

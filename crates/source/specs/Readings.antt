@@ -1,5 +1,5 @@
 -- Reading in steps: what is read from a bit on, and the bit behind it, or a fault.
-use Rattle.std.specs.Prelude.{ℕ, zero, suc, ◌<◌, Bool, true, false, cond, List, [], ◌∷◌, Ok, Err, Result, nat_le, nat_lt}
+use Rattle.std.specs.Prelude.{ℕ, zero, suc, Bool, true, false, cond, List, [], ◌∷◌, Ok, Err, Result, nat_le, nat_lt}
 use Rattle.questions.specs.declared.question.Question.{Question}
 use Rattle.fields.specs.declared.field.Field.{Field}
 use Rattle.fields.specs.declared.field.Fault.{Fault}

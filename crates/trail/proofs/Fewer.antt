@@ -1,5 +1,5 @@
 -- A set inside another, and not the same, has fewer values.
-use Rattle.std.proofs.Common.{◌≡◌, ℕ, zero, suc, ◌+◌, ◌-◌, ◌*◌, ◌/◌, ◌%◌, ◌^◌, ◌<◌, ◌≤◌, ◌⊎◌, sym, refl, ap, ◌∙◌, subst, inl, inr, pow-suc, arith}
+use Rattle.std.proofs.Common.{◌≡◌, ℕ, zero, suc, ◌/◌, ◌%◌, ◌^◌, ◌<◌, ◌≤◌, sym, ap, ◌∙◌, inl, inr, pow-suc, arith}
 use lib.Count.{ones, ones_step}
 use Rattle.std.proofs.lemmas.Bool.{cases_eq}
 use Rattle.values.specs.Members.{In}

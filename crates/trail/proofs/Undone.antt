@@ -1,5 +1,5 @@
 -- Saves made and undone.
-use Rattle.std.proofs.Common.{◌≡◌, ℕ, zero, suc, ◌+◌, ◌-◌, ◌<◌, ◌≤◌, List, [], ◌∷◌, length, get_or, take, drop, set, sym, refl, ap, ◌∙◌, subst, ap₂, arith}
+use Rattle.std.proofs.Common.{◌≡◌, ℕ, zero, suc, ◌-◌, ◌<◌, ◌≤◌, List, [], ◌∷◌, length, get_or, take, drop, set, ap, ◌∙◌, arith}
 use lib.Count.{ones}
 use Rattle.std.proofs.lemmas.List.{set-set, set-get_or}
 use Rattle.trail.specs.declared.kinds.Saved.{Saved}

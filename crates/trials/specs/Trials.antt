@@ -1,5 +1,5 @@
 -- The ask: trials that branch, with a memory of refuted boxes and a budget.
-use Rattle.std.specs.Prelude.{◌≡◌, ℕ, ◌+◌, ◌-◌, ◌^◌, List, length, set, Some, None, Option, slice_index, slice_set}
+use Rattle.std.specs.Prelude.{◌≡◌, ℕ, ◌+◌, ◌-◌, ◌^◌, List, length, Some, None, Option, slice_index, slice_set}
 use Rattle.grammar.specs.Contents.{Contents}
 use Rattle.boxes.specs.declared.ValueBox.{ValueBox}
 use Rattle.propagate.specs.Sets.{sets_of}

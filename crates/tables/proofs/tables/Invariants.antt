@@ -1,4 +1,4 @@
-use Rattle.std.proofs.Common.{◌≡◌, ◌+◌, ◌-◌, map, length, take}
+use Rattle.std.proofs.Common.{◌+◌, ◌-◌, map, length, take}
 use Rattle.grammar.specs.Grammar.{table, tables}
 use Rattle.grammar.specs.Layout.{Laid, table_of}
 use Rattle.source.proofs.Each.{Sofar}

@@ -1,4 +1,4 @@
-use Rattle.std.proofs.Common.{◌≡◌, ◌≤◌, length, sym, refl, ap, ◌∙◌, arith, rules}
+use Rattle.std.proofs.Common.{arith, rules}
 use Rattle.book.specs.Books.{contents}
 use Rattle.ask.proofs.Starts.{trimmed_total, trial_whole}
 use Rattle.ask.proofs.asking.ask.Goals as goal

@@ -1,8 +1,8 @@
-use Rattle.std.proofs.Common.{◌≡◌, ◌+◌, ◌-◌, ◌<◌, ◌≤◌, length, get_or, take, Some, sym, refl, ap, ◌∙◌, subst, arith, rules}
+use Rattle.std.proofs.Common.{◌+◌, length, get_or, take, Some, sym, refl, ap, ◌∙◌, subst, arith}
 use Rattle.book.specs.Books.{contents}
-use Rattle.stack.specs.Views.{on, room}
+use Rattle.stack.specs.Views.{on}
 use Rattle.trials.specs.Trials.{Trial, stopped, found, spent, settled}
-use Rattle.branching.specs.Frames.{frames, Tried}
+use Rattle.branching.specs.Frames.{frames}
 use Rattle.branching.proofs.Opened.{paired_none, frames_none}
 use Rattle.branching.proofs.Rises.{leads_start, leads_over, leads_on, leads_out, leads_left, refuted_at_once}
 use Rattle.ask.proofs.asking.search.Goals as goal

@@ -1,4 +1,4 @@
-use Rattle.std.proofs.Common.{◌≡◌, ◌<◌, length, get_or, sym, refl, ap, ◌∙◌, arith, rules}
+use Rattle.std.proofs.Common.{◌<◌, length, get_or, ap, arith}
 use Rattle.book.specs.Books.{contents}
 use Rattle.values.proofs.Digits.{some_from_ones}
 use Rattle.ask.proofs.Writings.{writing_none, writing_more, written}

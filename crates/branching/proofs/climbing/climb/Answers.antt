@@ -1,13 +1,13 @@
-use Rattle.std.proofs.Common.{◌≡◌, ◌+◌, ◌-◌, ◌^◌, ◌<◌, ◌≤◌, ◌∷◌, length, get_or, sym, refl, ap, ◌∙◌, subst, arith, rules}
+use Rattle.std.proofs.Common.{◌-◌, ◌^◌, ◌<◌, length, get_or, refl, ap, ◌∙◌, arith}
 use Rattle.book.specs.Books.{contents}
 use Rattle.propagate.proofs.Books.{valid}
-use Rattle.stack.specs.Views.{on, room}
+use Rattle.stack.specs.Views.{on}
 use Rattle.stack.proofs.Rooms.{on_room}
 use Rattle.trail.specs.Trails.{branch}
 use Rattle.trail.specs.declared.kinds.Side.TheVariants.{Right}
 use Rattle.branching.specs.Frames.{frames}
 use Rattle.branching.proofs.Singles.{ones_less}
-use Rattle.branching.proofs.Opened.{Shut, shut, opened_as, paired_as, frames_none}
+use Rattle.branching.proofs.Opened.{shut, opened_as, paired_as, frames_none}
 use Rattle.branching.proofs.Rises.{climbing_close, climbing_turn, climbing_done}
 use Rattle.branching.proofs.climbing.climb.Goals as goal
 

@@ -1,4 +1,4 @@
-use Rattle.std.proofs.Common.{◌≡◌, ◌≤◌, length}
+use Rattle.std.proofs.Common.{◌≡◌, length}
 use Rattle.book.specs.Books.{contents}
 use Rattle.stack.specs.Views.{on, room}
 use Rattle.branching.specs.Frames.{frames, Paired}

@@ -1,5 +1,5 @@
-use Rattle.std.proofs.Common.{◌≡◌, ◌+◌, ◌<◌, ◌≤◌, length, set, sym, refl, ap, ◌∙◌, arith, rules}
-use Rattle.stack.specs.Views.{on, room}
+use Rattle.std.proofs.Common.{length, set, ap, ◌∙◌, arith}
+use Rattle.stack.specs.Views.{on}
 use Rattle.trail.specs.Trails.{total}
 use Rattle.branching.proofs.Descents.{inside_start, small_value, descent_room, descent_sets, descent_frames, descent_paired}
 use Rattle.book.specs.Books.{contents}

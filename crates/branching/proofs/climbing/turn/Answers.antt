@@ -1,4 +1,4 @@
-use Rattle.std.proofs.Common.{◌≡◌, ◌^◌, ◌<◌, get_or, sym, refl, ap, ◌∙◌, arith}
+use Rattle.std.proofs.Common.{get_or, arith}
 use Rattle.values.proofs.Digits.{in_lt, in_ge}
 use Rattle.branching.proofs.climbing.turn.Goals as goal
 

@@ -1,4 +1,4 @@
-use Rattle.std.proofs.Common.{◌≡◌, ◌^◌, ◌<◌, Bool, true, false, length, get_or, refl, subst, arith, rules}
+use Rattle.std.proofs.Common.{◌≡◌, Bool, true, false, get_or, refl, subst}
 use Rattle.branching.specs.Looks.{no_value, seen_box}
 use Rattle.branching.proofs.Singles.{one_value}
 use Rattle.branching.proofs.Smalls.{small_next}

@@ -1,6 +1,6 @@
-use Rattle.std.proofs.Common.{◌≡◌, ℕ, ◌+◌, ◌-◌, ◌*◌, ◌^◌, ◌<◌, ◌≤◌, [], ◌∷◌, ◌++◌, length, get_or, take, drop, set, Some, sym, refl, ap, ◌∙◌, arith, length-set}
+use Rattle.std.proofs.Common.{◌≡◌, ◌+◌, ◌^◌, ◌<◌, length, take, Some, sym, ap, ◌∙◌, arith, length-set}
 use Rattle.std.proofs.lemmas.List.{take_more_set, length-take-le}
-use Rattle.console.proofs.Passing.{pass, digit-step, Blank-step, no_step, end_some, end_none, ten_more, below_million}
+use Rattle.console.proofs.Passing.{digit-step, Blank-step, no_step, end_some, end_none, ten_more, below_million}
 use Rattle.console.proofs.Bridge.{pass_is}
 use Rattle.console.proofs.reading.read_numbers.Goals as goal
 use Rattle.console.proofs.reading.read_numbers.Goals.{in-Digit, in-Blank}

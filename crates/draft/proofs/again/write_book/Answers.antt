@@ -1,4 +1,4 @@
-use Rattle.std.proofs.Common.{◌≡◌, length, sym, ap, ◌∙◌}
+use Rattle.std.proofs.Common.{length, ap, ◌∙◌}
 use Rattle.draft.specs.Written.{counted, fitted, overwritten}
 use Rattle.draft.proofs.Rewriting.{told_valid, told_fit, told_spelled, told_short, told_bytes, rewrote}
 use Rattle.draft.proofs.again.write_book.Goals as goal

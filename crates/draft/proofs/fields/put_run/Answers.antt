@@ -1,8 +1,8 @@
-use Rattle.std.proofs.Common.{◌≡◌, ◌+◌, [], ◌∷◌, ◌++◌, get_or, drop, sym, ap, ◌∙◌}
+use Rattle.std.proofs.Common.{◌+◌, [], ◌∷◌, get_or, drop}
 use Rattle.std.proofs.lemmas.List.{at_drop_more, at_drop_all}
 use Rattle.draft.specs.Entries.{numbered}
 use Rattle.draft.specs.Writing.{field_at}
-use Rattle.draft.proofs.Dues.{due_none, due_ready, due_more, due_all}
+use Rattle.draft.proofs.Dues.{due_ready, due_more, due_all}
 use Rattle.draft.proofs.fields.put_run.Goals as goal
 
 pub put-requires : goal.put-requires

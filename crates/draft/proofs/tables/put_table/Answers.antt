@@ -1,9 +1,5 @@
-use Rattle.std.proofs.Common.{◌≡◌, ℕ, List, [], ◌∷◌, map, length, take, drop, sym, ap, ◌∙◌, subst, arith}
+use Rattle.std.proofs.Common.{length, take, drop, sym, ap, ◌∙◌, arith}
 use Rattle.std.proofs.lemmas.List.{length-map}
-use Rattle.fields.specs.declared.field.Field.{Field}
-use Rattle.grammar.specs.Layout.{table_of}
-use Rattle.draft.specs.Entries.{numbered, row_fields}
-use Rattle.draft.specs.Writing.{Ready, Wrote}
 use Rattle.draft.proofs.TableDues.{kind_ready, arity_ready, scope_ready, count_ready, rows_ready, table_wrote}
 use Rattle.draft.proofs.tables.put_table.Goals as goal
 

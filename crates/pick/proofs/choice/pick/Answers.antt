@@ -1,5 +1,4 @@
-use Rattle.std.proofs.Common.{◌<◌, get_or, arith}
-use lib.Count.{ones}
+use Rattle.std.proofs.Common.{get_or, arith}
 use Rattle.values.proofs.Digits.{some_from_ones}
 use Rattle.pick.proofs.choice.pick.Goals as goal
 

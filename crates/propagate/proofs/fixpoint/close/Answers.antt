@@ -1,4 +1,4 @@
-use Rattle.std.proofs.Common.{◌≡◌, length, ap, arith}
+use Rattle.std.proofs.Common.{length, ap, arith}
 use Rattle.book.specs.Books.{contents}
 use Rattle.propagate.proofs.Sweeps.{sweeping_none, sweeping_more, round_empties, ends}
 use Rattle.propagate.proofs.fixpoint.close.Goals as goal

@@ -1,5 +1,4 @@
-use Rattle.std.proofs.Common.{◌≡◌, ℕ, ◌%◌, ◌^◌, ◌<◌, ◌≤◌, length, get_or, sym, ap, ◌∙◌, subst, arith}
-use Rattle.book.specs.Books.{contents}
+use Rattle.std.proofs.Common.{length, ap, subst, arith}
 use Rattle.propagate.proofs.Trims.{Trimming, trimming_none, trimming_more}
 use Rattle.propagate.proofs.fixpoint.trim.Goals as goal
 

@@ -1,6 +1,3 @@
-use Rattle.std.proofs.Common.{◌≡◌, ℕ, ◌<◌, ◌≤◌, get_or}
-use Rattle.book.specs.Books.{contents}
-use Rattle.propagate.specs.Sets.{sets_of}
 use Rattle.propagate.proofs.Trims.{Trimming}
 use Rattle.propagate.proofs.fixpoint.trim.Given as goal
 

@@ -1,4 +1,4 @@
-use Rattle.std.proofs.Common.{◌≡◌, take, drop, ap, ◌∙◌, arith}
+use Rattle.std.proofs.Common.{take, drop, ap, ◌∙◌, arith}
 use Rattle.grammar.proofs.Windows.{window}
 use Rattle.propagate.proofs.layout.rows_of.Goals as goal
 

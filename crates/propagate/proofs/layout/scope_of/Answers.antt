@@ -1,4 +1,4 @@
-use Rattle.std.proofs.Common.{◌≡◌, ◌-◌, take, ap, ◌∙◌, arith}
+use Rattle.std.proofs.Common.{◌-◌, arith}
 use Rattle.grammar.proofs.Windows.{take_min}
 use Rattle.propagate.proofs.layout.scope_of.Goals as goal
 

@@ -1,4 +1,4 @@
-use Rattle.std.proofs.Common.{◌≡◌, ℕ, ◌<◌, ◌≤◌, length, get_or, sym, subst}
+use Rattle.std.proofs.Common.{ℕ, ◌<◌, ◌≤◌, length, get_or, sym, subst}
 use Rattle.book.specs.Books.{contents}
 use Rattle.propagate.proofs.Books.{valid, size_most}
 use Rattle.propagate.proofs.layout.sizes_of.Goals as goal

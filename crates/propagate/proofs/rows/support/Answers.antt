@@ -1,4 +1,4 @@
-use Rattle.std.proofs.Common.{◌≡◌, ◌+◌, ◌<◌, true, false, [], length, get_or, take, Decides, count_by, sym, ap, ◌∙◌, subst, subst₂, arith, rules}
+use Rattle.std.proofs.Common.{◌+◌, ◌<◌, [], length, get_or, take, Decides, count_by, sym, ap, ◌∙◌, subst, subst₂, arith, rules}
 use Rattle.std.proofs.lemmas.List.{take_all}
 use Rattle.propagate.specs.Sets.{placed}
 use Rattle.propagate.specs.Support.{Live, is_live}

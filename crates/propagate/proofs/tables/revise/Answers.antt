@@ -1,8 +1,7 @@
-use Rattle.std.proofs.Common.{◌≡◌, ℕ, ◌+◌, ◌<◌, ◌≤◌, List, length, get_or, sym, refl, ap, ◌∙◌, subst, subst₂, arith}
+use Rattle.std.proofs.Common.{◌≡◌, ℕ, ◌+◌, ◌<◌, List, length, get_or, sym, refl, ap, ◌∙◌, subst, subst₂, arith}
 use lib.Bits.{bit_or}
 use Rattle.std.proofs.lemmas.Nat.{one_shl}
 use Rattle.book.specs.Books.{contents}
-use Rattle.book.specs.declared.book.Book.{Book}
 use Rattle.propagate.specs.Sets.{Sets, placed}
 use Rattle.propagate.specs.Steps.{Collects, Revised, table_from}
 use Rattle.propagate.proofs.Books.{rows_of, table_at_lem, readable_at, scope_known}

@@ -1,4 +1,4 @@
-use Rattle.std.proofs.Common.{◌≡◌, ◌+◌, ◌-◌, ◌*◌, ◌≤◌, length, take, sum}
+use Rattle.std.proofs.Common.{◌≡◌, ◌+◌, ◌-◌, ◌*◌, ◌≤◌, take, sum}
 use Rattle.source.specs.Readings.{each}
 use Rattle.grammar.specs.Grammar.{shape}
 use Rattle.source.proofs.Each.{Sofar}

@@ -1,4 +1,4 @@
-use Rattle.std.proofs.Common.{◌≡◌, ℕ, ◌%◌, ◌^◌, ◌<◌, ◌≤◌, length, get_or, sym, ap, subst, mod-lt, arith, pow_pos}
+use Rattle.std.proofs.Common.{arith}
 use Rattle.book.specs.Books.{contents}
 use Rattle.propagate.proofs.Books.{valid}
 use Rattle.reduce.proofs.Recordings.{recording_none, recording_more, boxed}

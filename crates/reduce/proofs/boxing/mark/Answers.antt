@@ -1,4 +1,4 @@
-use Rattle.std.proofs.Common.{◌≡◌, ◌+◌, ◌<◌, get_or, sym, ap, subst, arith}
+use Rattle.std.proofs.Common.{◌+◌, get_or, sym, subst, arith}
 use lib.Bits.{bit_or}
 use Rattle.std.proofs.lemmas.Nat.{one_shl}
 use Rattle.reduce.proofs.Bindings.{Marking, marking_none, marking_more, marks}

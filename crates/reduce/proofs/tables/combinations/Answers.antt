@@ -1,4 +1,4 @@
-use Rattle.std.proofs.Common.{◌≡◌, ℕ, ◌+◌, ◌*◌, ◌^◌, ◌<◌, ◌≤◌, length, get_or, drop, sym, ap, ◌∙◌, ap₂, le_trans, mul_assoc, pow-suc, mul-one, add-one, arith}
+use Rattle.std.proofs.Common.{◌+◌, ◌*◌, ◌^◌, ◌≤◌, get_or, drop, sym, ap, ◌∙◌, le_trans, mul_assoc, pow-suc, mul-one, add-one, arith}
 use native.Mathlib.Nat.{pow-le-pow_right}
 use lib.Count.{ones}
 use Rattle.std.proofs.lemmas.Nat.{mul-le}

@@ -1,4 +1,4 @@
-use Rattle.std.proofs.Common.{◌≡◌, sum, ap, ◌∙◌, arith}
+use Rattle.std.proofs.Common.{sum, ap, ◌∙◌, arith}
 use Rattle.std.proofs.lemmas.List.{take_all}
 use Rattle.std.proofs.lemmas.List.Sums.{sum_by_more}
 use Rattle.shared.proofs.questions_of_asks.all_sizes.Goals as goal

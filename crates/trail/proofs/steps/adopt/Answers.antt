@@ -1,4 +1,4 @@
-use Rattle.std.proofs.Common.{◌≡◌, ◌<◌, length, sym, refl, ap, ◌∙◌, arith, rules}
+use Rattle.std.proofs.Common.{◌<◌, length, sym, refl, ap, ◌∙◌, arith}
 use Rattle.stack.specs.Views.{on, room}
 use Rattle.trail.proofs.Adopting.{adopted_none, adopted_same, adopted_more, adopted_room, adopted_all}
 use Rattle.trail.proofs.steps.adopt.Goals as goal

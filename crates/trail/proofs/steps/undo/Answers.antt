@@ -1,4 +1,4 @@
-use Rattle.std.proofs.Common.{◌≡◌, ◌<◌, length, sym, ◌∙◌, arith}
+use Rattle.std.proofs.Common.{◌<◌, length, sym, ◌∙◌, arith}
 use Rattle.stack.specs.Views.{on}
 use Rattle.trail.proofs.Undone.{undone_one, until_one}
 use Rattle.trail.proofs.steps.undo.Goals as goal

@@ -1,6 +1,6 @@
-use Rattle.std.proofs.Common.{◌≡◌, ◌+◌, ◌-◌, ◌*◌, ◌/◌, ◌%◌, ◌^◌, ◌<◌, ◌≤◌, length, sym, ap, subst, arith, length-drop, pow_mono, rules}
+use Rattle.std.proofs.Common.{◌≡◌, ◌+◌, ◌-◌, ◌^◌, ◌<◌, ◌≤◌, subst, arith, pow_mono, rules}
 use Rattle.std.proofs.lemmas.Nat.{shl_whole, one_shl, shr_below}
-use Rattle.bits.proofs.Inks.{Inked, field_more, byte_more, later}
+use Rattle.bits.proofs.Inks.{field_more, byte_more, later}
 use Rattle.bits.proofs.pen.Pen.put.Goals as goal
 
 pub loop-count-init : goal.loop-count-init

@@ -1,4 +1,4 @@
-use Rattle.std.proofs.Common.{◌-◌, ◌<◌, ◌≤◌, length, arith, rules}
+use Rattle.std.proofs.Common.{◌-◌, length, arith, rules}
 use Rattle.book.proofs.Names.{name_ordered, name_place_lem, name_value}
 use Rattle.book.proofs.book.Book.name.Goals as goal
 

@@ -1,4 +1,4 @@
-use Rattle.std.proofs.Common.{◌≡◌, ◌+◌, ◌-◌, ◌<◌, ◌≤◌, length, take, sum, ap, ◌∙◌, arith}
+use Rattle.std.proofs.Common.{◌≡◌, ◌+◌, ◌-◌, length, take, sum, ap, ◌∙◌, arith}
 use Rattle.book.proofs.Names.{sums_le, sums_more}
 use Rattle.book.proofs.book.Book.name_start.Goals as goal
 

@@ -1,4 +1,4 @@
-use Rattle.std.proofs.Common.{true, refl, ap, ◌∙◌}
+use Rattle.std.proofs.Common.{refl, ap, ◌∙◌}
 use lib.Bits.{bit_or}
 use borrow.Author.Tests.{clash}
 use Rattle.sheet.specs.Decisions.{stands}

@@ -1,4 +1,4 @@
-use Rattle.std.proofs.Common.{◌≡◌, ◌^◌, sym, refl, ap, ◌∙◌, subst, ⊎_elim, arith, eq-eqb, eqb-true}
+use Rattle.std.proofs.Common.{sym, ◌∙◌, subst, ⊎_elim, arith, eq-eqb, eqb-true}
 use Rattle.values.specs.Members.{In}
 use Rattle.values.proofs.Digits.{in_one_only}
 use Rattle.sheet.proofs.Unions.{alone_is}
