@@ -1,7 +1,7 @@
 -- What one more field, and one more byte, add to what a pen has written.
 use Rattle.std.proofs.Common.{◌≡◌, ℕ, zero, suc, ◌+◌, ◌-◌, ◌*◌, ◌/◌, ◌%◌, ◌^◌, ◌<◌, ◌≤◌, List, [], ◌∷◌, ◌++◌, length, take, drop, set, sym, refl, ap, ◌∙◌, subst, append_assoc, append-nil, add_comm, zero-add, arith, pow_pos}
 use lib.Arith.{digits_lt}
-use Rattle.std.specs.List.{AllByRecursion as All}
+use Rattle.std.specs.List.{AllByRecursion}
 use Rattle.std.proofs.lemmas.Nat.{shr-shr, shr_high, shr_split, mod_below, pow-add}
 use Rattle.std.proofs.ByRecursion.{All-take}
 use Rattle.std.proofs.lemmas.List.{take_more_set, drop-set-lt, drop-drop}
@@ -69,7 +69,7 @@ unfolding bits
 ink_none out = refl
 
 -- a pen with no bit that waits has written whole bytes
-pub ink_whole : (out : List ℕ) (at count held : ℕ) (bs : List ℕ) → ink out at count held ≡ bs → count ≡ 0 → All (λ b. b < 256) out → take at out ≡ packed bs
+pub ink_whole : (out : List ℕ) (at count held : ℕ) (bs : List ℕ) → ink out at count held ≡ bs → count ≡ 0 → AllByRecursion (λ b. b < 256) out → take at out ≡ packed bs
 ink_whole out at count held bs e none all =
     sym (packed_bits (take at out) (All-take (λ b. b < 256) at out all))
     ∙ ap packed (sym (append-nil (bits (take at out))) ∙ ap (λ k. bits (take at out) ++ spell k held) (sym none) ∙ e)

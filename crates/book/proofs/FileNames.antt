@@ -3,11 +3,11 @@ use Rattle.std.proofs.Common.{◌≡◌, ℕ, zero, suc, ◌+◌, ◌-◌, ◌*�
 use Rattle.std.proofs.lemmas.List.{at_drop_more, take_all, length-drop}
 use Rattle.bits.specs.Bits.{value, field}
 use Rattle.bits.proofs.Laws.{value_byte}
-use Rattle.fields.specs.declared.field.Field.{Field}
-use Rattle.source.specs.Readings.{each, within}
+use Rattle.book_fields.specs.declared.field.Field.{Field}
+use Rattle.book_source.specs.Readings.{each, within}
 use Rattle.grammar.specs.Grammar.{letter, letters, tail}
-use Rattle.source.specs.Files.{spelled, in_file}
-use Rattle.source.proofs.Inversion.{ok_so, next_so, within_so}
+use Rattle.book_source.specs.Files.{spelled, in_file}
+use Rattle.book_source.proofs.Inversion.{ok_so, next_so, within_so}
 
 module _ (file : List ℕ) where
   -- a field that was there

@@ -5,15 +5,15 @@ use Rattle.std.specs.List.{flat_map}
 use Rattle.std.proofs.lemmas.List.{length-map}
 use Rattle.std.proofs.lemmas.List.Sums.{sum_by-cons}
 use Rattle.questions.specs.declared.question.Question.{Question}
-use Rattle.fields.specs.declared.field.Field.{Field}
+use Rattle.book_fields.specs.declared.field.Field.{Field}
 use Rattle.grammar.specs.declared.index.Index.{Index}
 use Rattle.grammar.specs.Contents.{Table, Contents}
 use Rattle.grammar.specs.Layout.{Indexed, cut, contents_of, laid}
-use Rattle.source.specs.Readings.{ask, and_then, refuse}
+use Rattle.book_source.specs.Readings.{ask, and_then, refuse}
 use Rattle.grammar.specs.Grammar.{counts, shapes, tables, tail, book}
-use Rattle.source.specs.Files.{in_file}
+use Rattle.book_source.specs.Files.{in_file}
 use Rattle.book.specs.Parse.{row_count, parse, filled, indexed, Read}
-use Rattle.source.proofs.Inversion.{ok_so, next_so}
+use Rattle.book_source.proofs.Inversion.{ok_so, next_so}
 use Rattle.book.proofs.FileNames.{tail_is}
 use Rattle.grammar.proofs.Layouts.{tables_agree}
 use Rattle.grammar.proofs.Cuts.{cut_lengths}

@@ -1,12 +1,12 @@
 -- A file that parses is a valid book.
 use Rattle.std.proofs.Common.{◌≡◌, ℕ, leb, List, length, Ok, subst}
 use Rattle.questions.specs.declared.question.Question.{Question}
-use Rattle.fields.specs.declared.field.Field.{Field}
+use Rattle.book_fields.specs.declared.field.Field.{Field}
 use Rattle.grammar.specs.Contents.{Contents, Valid}
 use Rattle.grammar.specs.Grammar.{book}
-use Rattle.source.specs.Files.{in_file}
+use Rattle.book_source.specs.Files.{in_file}
 use Rattle.book.specs.Parse.{parse, row_count}
-use Rattle.source.proofs.Inversion.{ok_so, ask_so, then_so}
+use Rattle.book_source.proofs.Inversion.{ok_so, ask_so, then_so}
 use Rattle.grammar.proofs.ValidBooks.{book_valid}
 
 pub parse_valid : (file : List ℕ) (room : ℕ) (c : Contents) → parse file room ≡ Ok c → Valid c

@@ -2,14 +2,14 @@
 use Rattle.std.specs.Prelude.{◌≡◌, ℕ, ◌-◌, ◌<◌, ◌≤◌, List, ◌++◌, map, length, take, drop, Ok, Err, sum, Result, nat_le, slice_index}
 use Rattle.std.specs.List.{flat_map}
 use Rattle.questions.specs.declared.question.Question.{Question}
-use Rattle.fields.specs.declared.field.Field.{Field}
-use Rattle.fields.specs.declared.field.Fault.{Fault}
+use Rattle.book_fields.specs.declared.field.Field.{Field}
+use Rattle.book_fields.specs.declared.field.Fault.{Fault}
 use Rattle.grammar.specs.declared.index.Index.{Index}
 use Rattle.grammar.specs.Contents.{Contents}
 use Rattle.grammar.specs.Layout.{contents_of, laid}
-use Rattle.source.specs.Readings.{ask, and_then}
+use Rattle.book_source.specs.Readings.{ask, and_then}
 use Rattle.grammar.specs.Grammar.{book}
-use Rattle.source.specs.Files.{in_file}
+use Rattle.book_source.specs.Files.{in_file}
 
 -- how many rows all tables have together
 abbrev pub row_count : Contents → ℕ

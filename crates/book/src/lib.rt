@@ -5,8 +5,8 @@ mod book;
 mod reader;
 
 pub use book::Book;
-pub use fields::{Fault, Field};
+pub use book_fields::{Fault, Field};
+pub use book_source::Source;
 pub use grammar::{Index, Row, TableIndex};
 pub use reader::read;
 pub use reading::read_from;
-pub use source::Source;

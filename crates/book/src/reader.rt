@@ -4,7 +4,7 @@ ghost use Rattle.std.specs.Result.{result_map_both};
 ghost use Rattle.book.specs.Parse.{Read, filled, indexed, parse};
 
 use bits::Cursor;
-use fields::{Fault, Field};
+use book_fields::{Fault, Field};
 use grammar::{Index, Row};
 use questions::Question;
 use reading::read_from;

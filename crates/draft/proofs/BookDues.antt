@@ -1,11 +1,11 @@
 -- A book is written field by field in the order of its parts.
 use Rattle.std.proofs.Common.{◌≡◌, ℕ, ◌+◌, ◌<◌, List, [], ◌∷◌, ◌++◌, length, sum, sym, refl, ap, ◌∙◌, subst, arith}
-use Rattle.std.specs.List.{AllByRecursion as All}
+use Rattle.std.specs.List.{AllByRecursion}
 use Rattle.std.proofs.lemmas.List.{take_all, length-map}
 use Rattle.bits.specs.Ink.{ink, inked, place}
 use Rattle.bits.specs.declared.pen.Pen.{Pen}
 use Rattle.bits.proofs.Inks.{ink_none, ink_whole}
-use Rattle.fields.specs.declared.field.Field.{Field}
+use Rattle.book_fields.specs.declared.field.Field.{Field}
 use Rattle.grammar.specs.Contents.{Table, Contents, Valid}
 use Rattle.grammar.specs.Layout.{cut}
 use Rattle.grammar.proofs.Cuts.{cut_lengths}
@@ -33,7 +33,7 @@ module _ (sizes lengths : List ℕ) (ts : List Table) (m : ℕ) (letters : List 
   parts_are : fields whole ≡ part_fields sizes lengths ts m letters
   parts_are = (λ i. count_fields (length sizes) (counted i) ++ (option_fields 0 sizes (cut_lengths letters lengths (omega arith) i) ++ (tables_fields 0 0 ts ++ tail_fields (joined_cut letters lengths spelled i))))
 
-  module _ (valid : Valid whole) (fit : All Fit (fields whole)) (out₀ : List ℕ) (pen₀ : Pen) (long : length out₀ ≡ file_length_of whole) (at₀ : pen₀.at ≡ 0) (count₀ : pen₀.count ≡ 0) (held₀ : pen₀.held ≡ 0) where
+  module _ (valid : Valid whole) (fit : AllByRecursion Fit (fields whole)) (out₀ : List ℕ) (pen₀ : Pen) (long : length out₀ ≡ file_length_of whole) (at₀ : pen₀.at ≡ 0) (count₀ : pen₀.count ≡ 0) (held₀ : pen₀.held ≡ 0) where
     none : place pen₀ ≡ 0
     none = omega arith
 
@@ -92,7 +92,7 @@ module _ (sizes lengths : List ℕ) (ts : List Table) (m : ℕ) (letters : List 
                 pub names_ready : Ready pen₆ out₆ (numbered Field.NameByte 0 letters)
                 names_ready = d₆.ready
 
-                pub book_wrote : (out₇ : List ℕ) (pen₇ : Pen) → length out₇ ≡ length out₆ → Wrote out₆ pen₆ out₇ pen₇ (numbered Field.NameByte 0 letters) → All (λ b. b < 256) out₇ → out₇ ≡ encode whole
+                pub book_wrote : (out₇ : List ℕ) (pen₇ : Pen) → length out₇ ≡ length out₆ → Wrote out₆ pen₆ out₇ pen₇ (numbered Field.NameByte 0 letters) → AllByRecursion (λ b. b < 256) out₇ → out₇ ≡ encode whole
                 book_wrote out₇ pen₇ l₇ w₇ bytes =
                     let w : Wrote out₀ pen₀ out₇ pen₇ (fields whole) = subst (Wrote out₀ pen₀ out₇ pen₇) (sym parts_are) (due_last _ _ _ _ _ _ d₆ out₇ pen₇ l₇ w₇) in
                     let bs = spelt 0 (fields whole) in

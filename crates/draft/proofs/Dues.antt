@@ -1,22 +1,22 @@
 -- Writing fields in turns: what is written, with what is left to write, is all.
 use Rattle.std.proofs.Common.{◌≡◌, ℕ, ◌+◌, ◌-◌, ◌^◌, ◌<◌, ◌≤◌, List, [], ◌∷◌, ◌++◌, length, drop, Some, None, sym, refl, ap, ◌∙◌, subst, append_assoc, append-nil, arith, length-append}
-use Rattle.std.specs.List.{AllByRecursion as All}
+use Rattle.std.specs.List.{AllByRecursion}
 use Rattle.bits.specs.Bits.{spell}
 use Rattle.bits.specs.Ink.{inked, place}
 use Rattle.bits.specs.declared.pen.Pen.{Pen}
 use Rattle.bits.proofs.Laws.{length_spell}
-use Rattle.fields.specs.declared.field.Field.{Field}
-use Rattle.fields.specs.Fields.{layout}
+use Rattle.book_fields.specs.declared.field.Field.{Field}
+use Rattle.book_fields.specs.Fields.{layout}
 use Rattle.draft.specs.Entries.{Entry}
 use Rattle.draft.specs.Encoding.{in_bits, code, spelt, FitsIn, Fit}
 use Rattle.draft.specs.Writing.{Ready, Wrote}
 use Rattle.draft.proofs.Spelling.{spelt_none, spelt_append, length_spelt_append}
 
-all_left : (xs ys : List Entry) → All Fit (xs ++ ys) → All Fit xs
+all_left : (xs ys : List Entry) → AllByRecursion Fit (xs ++ ys) → AllByRecursion Fit xs
 all_left [] ys a = tt
 all_left (x ∷ xs) ys a = (a.0, all_left xs ys a.1)
 
-all_right : (xs ys : List Entry) → All Fit (xs ++ ys) → All Fit ys
+all_right : (xs ys : List Entry) → AllByRecursion Fit (xs ++ ys) → AllByRecursion Fit ys
 all_right [] ys a = a
 all_right (x ∷ xs) ys a = all_right xs ys a.1
 
@@ -58,7 +58,7 @@ module _ (out₀ : List ℕ) (pen₀ : Pen) (out : List ℕ) (pen : Pen) (all re
   due_ready = record {
     room = omega (arith, due.ready.room, ap (λ l. length (spelt (place pen) l)) parts, length_spelt_append (place pen) es left);
     short = due.ready.short;
-    fit = all_left es left (subst (All Fit) parts due.ready.fit);
+    fit = all_left es left (subst (AllByRecursion Fit) parts due.ready.fit);
   }
 
   module _ (out' : List ℕ) (pen' : Pen) (long : length out' ≡ length out) (w : Wrote out pen out' pen' es) where
@@ -69,7 +69,7 @@ module _ (out₀ : List ℕ) (pen₀ : Pen) (out : List ℕ) (pen : Pen) (all re
         let e : spelt at rest ≡ here ++ spelt (place pen') left = ap (spelt at) parts ∙ spelt_append at es left ∙ ap (λ k. here ++ spelt k left) (sym w.on) in
         let n = ap length e ∙ length-append here (spelt (place pen') left) in
         record {
-          ready = record { room = omega (arith, due.ready.room, w.on); short = omega (arith, due.ready.short); fit = all_right es left (subst (All Fit) parts due.ready.fit) };
+          ready = record { room = omega (arith, due.ready.room, w.on); short = omega (arith, due.ready.short); fit = all_right es left (subst (AllByRecursion Fit) parts due.ready.fit) };
           ink = ap (λ l. l ++ spelt (place pen') left) w.ink ∙ append_assoc (inked out pen) here (spelt (place pen') left) ∙ ap (λ l. inked out pen ++ l) (sym e) ∙ due.ink;
           on = omega (arith, w.on, due.on);
           from = omega (arith, w.on, due.from);

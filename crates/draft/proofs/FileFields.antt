@@ -1,14 +1,14 @@
 -- The fields that a file answers are those whose bits it has.
 use Rattle.std.proofs.Common.{◌≡◌, ℕ, ◌+◌, ◌-◌, ◌*◌, ◌≤◌, cond, List, [], ◌∷◌, ◌++◌, length, take, drop, Some, None, Ok, Option, sym, refl, ap, ◌∙◌, subst, append_assoc, add-zero, mod-eq_of_lt, arith, length-append, length-drop, length-take-le, take-add, le-leb}
-use Rattle.std.specs.List.{AllByRecursion as All}
+use Rattle.std.specs.List.{AllByRecursion}
 use Rattle.std.proofs.lemmas.List.{take_at, drop_at, drop-drop}
 use Rattle.std.proofs.ByRecursion.{All-take, All-drop}
 use Rattle.bits.specs.Bits.{spell, number, bits, value}
 use Rattle.bits.proofs.Laws.{length_spell, length_bits, number_spell}
 use Rattle.bits.proofs.Packs.{Bit, all_bits, spell_number}
-use Rattle.fields.specs.declared.field.Field.{Field}
-use Rattle.fields.specs.Fields.{layout}
-use Rattle.source.specs.Files.{spelled, says, in_file}
+use Rattle.book_fields.specs.declared.field.Field.{Field}
+use Rattle.book_fields.specs.Fields.{layout}
+use Rattle.book_source.specs.Files.{spelled, says, in_file}
 use Rattle.book.proofs.FileNames.{spelled_so}
 use Rattle.draft.specs.Entries.{Entry}
 use Rattle.draft.specs.Encoding.{in_bits, code, spelt, FitsIn, Fit}
@@ -29,7 +29,7 @@ module _ (file : List ℕ) where
       ap (λ b. spelled (cond b (Some (value file at w)) None) f at l) (le-leb _ _ fits)
       ∙ (λ t. Ok (back t, at + sym (length_spell w x) t))
 
-  pub file_answers : (es : List Entry) (pre : List ℕ) → All Fit es → bits file ≡ pre ++ spelt (length pre) es → Answered (in_file file) es (length pre) (length pre + length (spelt (length pre) es))
+  pub file_answers : (es : List Entry) (pre : List ℕ) → AllByRecursion Fit es → bits file ≡ pre ++ spelt (length pre) es → Answered (in_file file) es (length pre) (length pre + length (spelt (length pre) es))
   unfolding spelt
   file_answers [] pre a e = sym (add-zero (length pre))
   file_answers (x ∷ es) pre a e =
@@ -61,7 +61,7 @@ module _ (file : List ℕ) where
         omega (arith, s.0, s.2),
       )
 
-  pub file_spells : (es : List Entry) (at end : ℕ) → All Fit es → at ≤ 8 * length file → Answered (in_file file) es at end
+  pub file_spells : (es : List Entry) (at end : ℕ) → AllByRecursion Fit es → at ≤ 8 * length file → Answered (in_file file) es at end
       → (spelt at es ≡ take (length (spelt at es)) (drop at (bits file))) × (end ≡ at + length (spelt at es)) × (end ≤ 8 * length file)
   unfolding spelt
   file_spells [] at end a h x = (refl, sym x ∙ sym (add-zero at), omega arith)

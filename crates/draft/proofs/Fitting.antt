@@ -4,9 +4,9 @@ use native.Mathlib.Nat.{sub-zero}
 use borrow.Author.Tests.{lt-leb}
 use Rattle.std.proofs.lemmas.List.{take_at}
 use Rattle.questions.specs.declared.question.Question.{Question}
-use Rattle.fields.specs.declared.field.Field.{Field}
-use Rattle.source.specs.Readings.{ask, refuse}
-use Rattle.source.proofs.Inversion.{ok_so}
+use Rattle.book_fields.specs.declared.field.Field.{Field}
+use Rattle.book_source.specs.Readings.{ask, refuse}
+use Rattle.book_source.proofs.Inversion.{ok_so}
 use Rattle.draft.specs.Written.{fitted, counted, overwritten}
 
 module _ (bytes old : List ℕ) (n : ℕ) (size : length bytes ≡ n) where

@@ -1,15 +1,15 @@
 -- The layers of a book, by the fields that each asks for.
 use Rattle.std.proofs.Common.{◌≡◌, ℕ, zero, suc, ◌+◌, ◌-◌, ◌%◌, ◌<◌, ◌≤◌, List, [], ◌∷◌, ◌++◌, map, length, get_or, take, drop, Some, None, Ok, sum, Option, sym, refl, ap, ◌∙◌, subst, append_assoc, append-nil, arith, length-drop, pow_pos}
-use Rattle.std.specs.List.{flat_map, AllByRecursion as All}
+use Rattle.std.specs.List.{flat_map, AllByRecursion}
 use Rattle.std.proofs.lemmas.List.{take-append-drop, nil_from_length, length-map}
 use Rattle.std.proofs.lemmas.List.Sums.{sum_by-cons}
 use Rattle.questions.specs.declared.question.Question.{Question}
-use Rattle.fields.specs.declared.field.Field.{Field}
+use Rattle.book_fields.specs.declared.field.Field.{Field}
 use Rattle.grammar.specs.Contents.{Table, Contents}
 use Rattle.grammar.specs.Layout.{cut}
-use Rattle.source.specs.Readings.{Source, ask, and_then, next, give, within, each}
+use Rattle.book_source.specs.Readings.{Source, ask, and_then, next, give, within, each}
 use Rattle.grammar.specs.Grammar.{shape, shapes, member, scope, value, values, rises, row, rows, row_limit_of, heading, table, tables, letter, letters, counts, tail, book}
-use Rattle.source.proofs.Inversion.{ok_so, ask_so, then_so, next_so, within_so, each_so}
+use Rattle.book_source.proofs.Inversion.{ok_so, ask_so, then_so, next_so, within_so, each_so}
 use Rattle.grammar.proofs.Cuts.{cut_lengths}
 use Rattle.grammar.proofs.ValidBooks.{book_valid}
 use Rattle.draft.specs.Entries.{Entry, numbered, option_fields, row_fields, table_fields, tables_fields, count_fields, tail_fields, fields}
@@ -159,7 +159,7 @@ joined_cut ls (n ∷ ns) h =
     let total = sum_by-cons (λ x. x) n ns in
     ap (λ l. take n ls ++ l) (joined_cut (drop n ls) ns (simp length-drop (omega arith))) ∙ take-append-drop n ls
 
-small_at : (sizes : List ℕ) → All (λ s. (1 ≤ s) × (s ≤ 32)) sizes → (x : ℕ) → get_or sizes x 0 ≤ 32
+small_at : (sizes : List ℕ) → AllByRecursion (λ s. (1 ≤ s) × (s ≤ 32)) sizes → (x : ℕ) → get_or sizes x 0 ≤ 32
 small_at [] a x = omega arith
 small_at (s ∷ sizes) a zero = a.0.1
 small_at (s ∷ sizes) a (suc x) = small_at sizes a.1 x

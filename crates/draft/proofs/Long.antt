@@ -1,14 +1,14 @@
 -- How many bits the fields of a book have together.
 use Rattle.std.proofs.Common.{◌≡◌, ℕ, ◌+◌, ◌-◌, ◌*◌, ◌/◌, ◌%◌, ◌≤◌, List, [], ◌∷◌, ◌++◌, map, length, Some, sum_by, sum, sym, refl, ap, ◌∙◌, mul-zero, mul-one, mul-add, arith, length-append}
-use Rattle.std.specs.List.{flat_map, AllByRecursion as All}
+use Rattle.std.specs.List.{flat_map, AllByRecursion}
 use Rattle.std.proofs.lemmas.List.{length-map}
 use Rattle.std.proofs.lemmas.Nat.{mul-le}
 use Rattle.std.proofs.ByRecursion.{All-from_get_or}
 use Rattle.std.proofs.lemmas.List.Sums.{sum_by-cons}
 use Rattle.bits.proofs.Laws.{length_spell}
-use Rattle.fields.specs.declared.field.Field.{Field}
+use Rattle.book_fields.specs.declared.field.Field.{Field}
 use Rattle.grammar.specs.Contents.{Table, Contents, ValidTable, Valid}
-use Rattle.fields.specs.Fields.{layout}
+use Rattle.book_fields.specs.Fields.{layout}
 use Rattle.draft.specs.Entries.{numbered, option_fields, row_fields, table_fields, tables_fields, count_fields, tail_fields, fields}
 use Rattle.draft.specs.Encoding.{in_bits, code, spelt, Fit}
 use Rattle.draft.specs.Lengths.{table_bits_of, file_bits, file_length_of}
@@ -33,7 +33,7 @@ options_long [] lengths e at i = refl
 options_long (s ∷ sizes) [] e at i = absurd (omega arith)
 options_long (s ∷ sizes) (n ∷ lengths) e at i = omega (arith, options_long sizes lengths (omega arith) (at + 5 + 5) (i + 1))
 
-pub rows_long : (n t : ℕ) (rows : List (List ℕ)) → All (λ x. length x ≡ n) rows → (at r : ℕ) → length (spelt at (row_fields t r rows)) ≡ 5 * n * length rows
+pub rows_long : (n t : ℕ) (rows : List (List ℕ)) → AllByRecursion (λ x. length x ≡ n) rows → (at r : ℕ) → length (spelt at (row_fields t r rows)) ≡ 5 * n * length rows
 unfolding spelt
 rows_long n t [] a at r = sym (mul-zero (5 * n))
 rows_long n t (x ∷ rows) a at r =
@@ -41,7 +41,7 @@ rows_long n t (x ∷ rows) a at r =
     let here = numbered_long (Field.Value t r) 5 (λ _ _. refl) x at 0 in
     omega (arith, length_spelt_append at one (row_fields t (r + 1) rows), here, a.0, rows_long n t rows a.1 (at + length (spelt at one)) (r + 1), mul-add (5 * n) (length rows) 1, mul-one (5 * n))
 
-pub table_long : (x : Table) → All (λ row. length row ≡ length x.scope) x.rows → (at t first : ℕ) → length (spelt at (table_fields t first x)) ≡ table_bits_of x
+pub table_long : (x : Table) → AllByRecursion (λ row. length row ≡ length x.scope) x.rows → (at t first : ℕ) → length (spelt at (table_fields t first x)) ≡ table_bits_of x
 unfolding spelt
 table_long x a at t first =
     let scoped = numbered (Field.ScopeOption t) 0 x.scope in
@@ -55,7 +55,7 @@ table_long x a at t first =
       rows_long (length x.scope) t x.rows a (there + 11) first,
     )
 
-pub tables_long : (xs : List Table) → All (λ x. All (λ row. length row ≡ length x.scope) x.rows) xs → (at t first : ℕ) → length (spelt at (tables_fields t first xs)) ≡ sum_by table_bits_of xs
+pub tables_long : (xs : List Table) → AllByRecursion (λ x. AllByRecursion (λ row. length row ≡ length x.scope) x.rows) xs → (at t first : ℕ) → length (spelt at (tables_fields t first xs)) ≡ sum_by table_bits_of xs
 unfolding spelt
 tables_long [] a at t first = refl
 tables_long (x ∷ xs) a at t first =
@@ -66,7 +66,7 @@ length_joined : (names : List (List ℕ)) → length (flat_map (λ n. n) names) 
 length_joined [] = refl
 length_joined (n ∷ names) = length-append n (flat_map (λ n. n) names) ∙ omega (arith, length_joined names, sum_by-cons (λ x. x) (length n) (map length names))
 
-all_rows_long : (sizes : List ℕ) (xs : List Table) → All (ValidTable sizes) xs → All (λ x. All (λ row. length row ≡ length x.scope) x.rows) xs
+all_rows_long : (sizes : List ℕ) (xs : List Table) → AllByRecursion (ValidTable sizes) xs → AllByRecursion (λ x. AllByRecursion (λ row. length row ≡ length x.scope) x.rows) xs
 all_rows_long sizes [] a = tt
 all_rows_long sizes (x ∷ xs) a = (All-from_get_or (λ row. length row ≡ length x.scope) x.rows [] a.0.long, all_rows_long sizes xs a.1)
 
@@ -104,19 +104,19 @@ fields_long c v =
 table_few : (sizes : List ℕ) (x : Table) → ValidTable sizes x → table_bits_of x ≤ 34 + 20 * length x.rows
 table_few sizes x v = omega (arith, mul-le (5 * length x.scope) (length x.rows) 20 (length x.rows) (omega (arith, v.few)) (omega arith), v.few)
 
-tables_few : (sizes : List ℕ) (xs : List Table) → All (ValidTable sizes) xs → sum_by table_bits_of xs ≤ 34 * length xs + 20 * sum (map (λ t. length t.rows) xs)
+tables_few : (sizes : List ℕ) (xs : List Table) → AllByRecursion (ValidTable sizes) xs → sum_by table_bits_of xs ≤ 34 * length xs + 20 * sum (map (λ t. length t.rows) xs)
 tables_few sizes [] a = omega arith
 tables_few sizes (x ∷ xs) a =
     omega (arith, table_few sizes x a.0, tables_few sizes xs a.1, sum_by-cons table_bits_of x xs, sum_by-cons (λ n. n) (length x.rows) (map (λ t. length t.rows) xs))
 
-lengths_few : (sizes lengths : List ℕ) (i : ℕ) → length sizes ≡ length lengths → All Fit (option_fields i sizes lengths) → sum lengths ≤ 31 * length lengths
+lengths_few : (sizes lengths : List ℕ) (i : ℕ) → length sizes ≡ length lengths → AllByRecursion Fit (option_fields i sizes lengths) → sum lengths ≤ 31 * length lengths
 lengths_few [] [] i e a = omega arith
 lengths_few [] (n ∷ lengths) i e a = absurd (omega arith)
 lengths_few (s ∷ sizes) [] i e a = absurd (omega arith)
 lengths_few (s ∷ sizes) (n ∷ lengths) i e a =
     omega (arith, (a.1.0 0).1, lengths_few sizes lengths (i + 1) (omega arith) a.1.1, sum_by-cons (λ x. x) n lengths)
 
-pub file_short : (c : Contents) → Valid c → All Fit (option_fields 0 c.sizes (map length c.names)) → file_length_of c ≤ 32768
+pub file_short : (c : Contents) → Valid c → AllByRecursion Fit (option_fields 0 c.sizes (map length c.names)) → file_length_of c ≤ 32768
 file_short c v a =
     let even : length (map length c.names) ≡ length c.sizes = length-map c.names length ∙ v.named in
     omega (arith, tables_few c.sizes c.tables v.tables, lengths_few c.sizes (map length c.names) 0 (sym even) a, v.few, v.tabled, v.short)

@@ -4,20 +4,20 @@ use mathlib.Core.HLevel.{⊥_prop}
 use mathlib.Core.Logic.{∥∥₁_elim}
 use native.Mathlib.Nat.{ℕ_set}
 use native.Mathlib.Bridge.{le_prop}
-use Rattle.std.specs.List.{AllByRecursion as All}
+use Rattle.std.specs.List.{AllByRecursion}
 use Rattle.std.proofs.ByRecursion.{All-from_get_or}
 use Rattle.std.proofs.lemmas.List.{ext_get_or}
 use Rattle.questions.specs.declared.question.Question.{Question}
 use Rattle.book.specs.declared.book.Book.{Book}
-use Rattle.fields.specs.declared.field.Field.{Field}
-use Rattle.fields.specs.declared.field.Fault.{Fault}
+use Rattle.book_fields.specs.declared.field.Field.{Field}
+use Rattle.book_fields.specs.declared.field.Fault.{Fault}
 use Rattle.grammar.specs.declared.index.TableIndex.{TableIndex}
 use Rattle.book.specs.Books.{contents, letters}
 use Rattle.grammar.specs.Contents.{Contents, Valid}
-use Rattle.fields.specs.Fields.{layout}
-use Rattle.source.specs.Files.{in_file}
+use Rattle.book_fields.specs.Fields.{layout}
+use Rattle.book_source.specs.Files.{in_file}
 use Rattle.grammar.specs.Layout.{cut, table_of}
-use Rattle.source.proofs.Inversion.{ask_so}
+use Rattle.book_source.proofs.Inversion.{ask_so}
 use Rattle.grammar.proofs.Validity.{all_prop, valid_out}
 use Rattle.draft.specs.Entries.{Entry, fields}
 use Rattle.draft.specs.Encoding.{FitsIn, Fit, encode}
@@ -34,7 +34,7 @@ fit_prop : (e : Entry) → IsProp (Fit e)
 fit_prop e = λ a b t at. fits_in_prop e.1 (layout e.0 at) (a at) (b at) t
 
 module _ (b : Book) where
-  book_fit : All Fit (fields (contents b))
+  book_fit : AllByRecursion Fit (fields (contents b))
   book_fit =
       ∥∥₁_elim b.read (all_prop Fit fit_prop (fields (contents b)))
       (λ e. parse_so b.file.now (length b.rows.now) (contents b) e (λ end was. (book_whole (in_file b.file.now) 0 (contents b) end was).fit))
@@ -62,8 +62,8 @@ module _ (b : Book) where
     pub told_valid : Valid told
     told_valid = subst Valid (sym told_is) (valid_out (contents b) b.valid)
 
-    pub told_fit : All Fit (fields told)
-    told_fit = subst (λ c. All Fit (fields c)) (sym told_is) book_fit
+    pub told_fit : AllByRecursion Fit (fields told)
+    told_fit = subst (λ c. AllByRecursion Fit (fields c)) (sym told_is) book_fit
 
     long : length names ≡ b.index.letters
     long = ap length l ∙ length-drop (length b.file.now - b.index.letters) b.file.now ∙ omega (arith, b.inside)

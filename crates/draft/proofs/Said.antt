@@ -1,12 +1,12 @@
 -- What a source was asked and answered in a reading, and that whoever answers the same gives the same.
 use Rattle.std.proofs.Common.{◌≡◌, ℕ, zero, suc, ◌<◌, ◌≤◌, true, false, cond, List, [], ◌∷◌, ◌++◌, Ok, sym, refl, ap, ◌∙◌, subst, append_assoc, arith, lt-ltb, le-leb}
-use Rattle.std.specs.List.{AllByRecursion as All}
+use Rattle.std.specs.List.{AllByRecursion}
 use Rattle.std.proofs.ByRecursion.{All-append}
-use Rattle.fields.specs.declared.field.Field.{Field}
-use Rattle.fields.specs.Fields.{asked}
-use Rattle.source.specs.Readings.{Reading, Source, ask, and_then, next, give, between, within, each}
-use Rattle.source.proofs.Inversion.{ok_so, next_so, within_so}
-use Rattle.source.proofs.Steps.{next_ok}
+use Rattle.book_fields.specs.declared.field.Field.{Field}
+use Rattle.book_fields.specs.Fields.{asked}
+use Rattle.book_source.specs.Readings.{Reading, Source, ask, and_then, next, give, between, within, each}
+use Rattle.book_source.proofs.Inversion.{ok_so, next_so, within_so}
+use Rattle.book_source.proofs.Steps.{next_ok}
 use Rattle.draft.specs.Entries.{Entry}
 use Rattle.draft.specs.Encoding.{Fit}
 
@@ -38,7 +38,7 @@ gives_within f low high v l h s at end x =
 -- a reading from a source, by the fields that it asked for
 pub record Said {X : Type 0} (s : Source) (m : Source → Reading X) (es : List Entry) (x : X) (at end : ℕ) : Type 0 where
   pub answers : Answered s es at end
-  pub fit : All Fit es
+  pub fit : AllByRecursion Fit es
   pub again : Gives m es x
 
 module _ (s : Source) where
@@ -91,7 +91,7 @@ ended = (Field.End, 0) ∷ []
 
 pub record Whole {X : Type 0} (s : Source) (m : Source → Reading X) (es : List Entry) (x : X) (at end : ℕ) : Type 0 where
   pub answers : Answered s (es ++ ended) at end
-  pub fit : All Fit es
+  pub fit : AllByRecursion Fit es
   pub again : Gives m (es ++ ended) x
 
 module _ (s : Source) where

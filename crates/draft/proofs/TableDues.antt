@@ -1,11 +1,11 @@
 -- A table is written heading first, then its rows.
 use Rattle.std.proofs.Common.{◌≡◌, ℕ, ◌+◌, ◌<◌, List, [], ◌∷◌, ◌++◌, map, length, get_or, take, drop, sum_by, sum, refl, ap, ◌∙◌, subst}
-use Rattle.std.specs.List.{AllByRecursion as All}
+use Rattle.std.specs.List.{AllByRecursion}
 use Rattle.std.proofs.ByRecursion.{All-get_or}
 use Rattle.std.proofs.lemmas.List.{at_drop_more, get_or-map, length-map}
 use Rattle.std.proofs.lemmas.List.Sums.{sum_by-cons, sum_by_more}
 use Rattle.bits.specs.declared.pen.Pen.{Pen}
-use Rattle.fields.specs.declared.field.Field.{Field}
+use Rattle.book_fields.specs.declared.field.Field.{Field}
 use Rattle.grammar.specs.declared.index.TableIndex.{TableIndex}
 use Rattle.grammar.specs.Contents.{Table, ValidTable}
 use Rattle.grammar.specs.Layout.{table_of}
@@ -70,7 +70,7 @@ module _ (rows : List (List ℕ)) (ts : List TableIndex) (i : ℕ) (h : i < leng
   inside : i < length (map (table_of rows) ts)
   inside = simp length-map h
 
-  pub valid_at : (sizes : List ℕ) → All (ValidTable sizes) (map (table_of rows) ts) → ValidTable sizes (table_of rows (get_or ts i blank))
+  pub valid_at : (sizes : List ℕ) → AllByRecursion (ValidTable sizes) (map (table_of rows) ts) → ValidTable sizes (table_of rows (get_or ts i blank))
   valid_at sizes a = subst (ValidTable sizes) at_place (All-get_or (ValidTable sizes) (map (table_of rows) ts) i (table_of rows blank) inside a)
 
   pub bits_more : sum_by table_bits_of (take (i + 1) (map (table_of rows) ts)) ≡ sum_by table_bits_of (take i (map (table_of rows) ts)) + table_bits_of (table_of rows (get_or ts i blank))

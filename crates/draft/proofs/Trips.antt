@@ -1,19 +1,19 @@
 -- Reading and writing undo each other.
 use Rattle.std.proofs.Common.{◌≡◌, ℕ, ◌+◌, ◌-◌, ◌*◌, ◌/◌, ◌≤◌, leb, List, [], ◌∷◌, ◌++◌, map, length, Ok, refl, ap, ◌∙◌, arith, le-leb}
-use Rattle.std.specs.List.{AllByRecursion as All}
+use Rattle.std.specs.List.{AllByRecursion}
 use Rattle.std.proofs.lemmas.List.{take_all}
 use Rattle.bits.specs.Bits.{bits}
 use Rattle.bits.specs.Bytes.{packed}
 use Rattle.bits.proofs.Laws.{length_bits}
 use Rattle.bits.proofs.Packs.{bits_packed, packed_bits, length_bytes}
 use Rattle.questions.specs.declared.question.Question.{Question}
-use Rattle.fields.specs.declared.field.Field.{Field}
+use Rattle.book_fields.specs.declared.field.Field.{Field}
 use Rattle.grammar.specs.Contents.{Contents, Valid}
-use Rattle.source.specs.Readings.{ask, and_then}
+use Rattle.book_source.specs.Readings.{ask, and_then}
 use Rattle.grammar.specs.Grammar.{book}
-use Rattle.source.specs.Files.{in_file}
+use Rattle.book_source.specs.Files.{in_file}
 use Rattle.book.specs.Parse.{parse, row_count}
-use Rattle.source.proofs.Inversion.{ok_so, ask_so, then_so}
+use Rattle.book_source.proofs.Inversion.{ok_so, ask_so, then_so}
 use Rattle.grammar.proofs.ValidBooks.{book_valid}
 use Rattle.draft.specs.Entries.{Entry, option_fields, fields}
 use Rattle.draft.specs.Encoding.{spelt, encode, Fit}
@@ -25,11 +25,11 @@ use Rattle.draft.proofs.FileFields.{file_answers, file_spells}
 use Rattle.draft.proofs.Layers.{book_whole}
 use Rattle.draft.proofs.Long.{fields_long, file_short}
 
-all_front : (xs ys : List Entry) → All Fit (xs ++ ys) → All Fit xs
+all_front : (xs ys : List Entry) → AllByRecursion Fit (xs ++ ys) → AllByRecursion Fit xs
 all_front [] ys a = tt
 all_front (x ∷ xs) ys a = (a.0, all_front xs ys a.1)
 
-pub valid_short : (c : Contents) → Valid c → All Fit (fields c) → file_length_of c ≤ 32768
+pub valid_short : (c : Contents) → Valid c → AllByRecursion Fit (fields c) → file_length_of c ≤ 32768
 valid_short c v fit = file_short c v (all_front (option_fields 0 c.sizes (map length c.names)) _ fit.1.1.1)
 
 pub length_encode : (c : Contents) → Valid c → length (encode c) ≡ file_length_of c

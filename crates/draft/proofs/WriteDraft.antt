@@ -1,13 +1,13 @@
 -- From a draft whose contents were read into lent memory to what is written for it.
 use Rattle.std.proofs.Common.{◌≡◌, ℕ, ◌-◌, ◌≤◌, List, map, length, take, drop, Ok, Err, sum, Result, sym, ap, ◌∙◌, arith, length-take-le}
 use native.Mathlib.Nat.{sub-zero}
-use Rattle.std.specs.List.{AllByRecursion as All}
+use Rattle.std.specs.List.{AllByRecursion}
 use Rattle.std.proofs.lemmas.List.{take-append-drop}
-use Rattle.fields.specs.declared.field.Fault.{Fault}
+use Rattle.book_fields.specs.declared.field.Fault.{Fault}
 use Rattle.grammar.specs.declared.index.Index.{Index}
 use Rattle.grammar.specs.Contents.{Contents, Valid}
 use Rattle.grammar.specs.Layout.{Indexed, cut, contents_of, table_of}
-use Rattle.source.specs.Readings.{and_then}
+use Rattle.book_source.specs.Readings.{and_then}
 use Rattle.grammar.specs.Grammar.{book}
 use Rattle.book.specs.Parse.{parse}
 use Rattle.grammar.proofs.Cuts.{cut_front}
@@ -59,7 +59,7 @@ module _ (d : Draft) (rows : List (List ℕ)) (names : List ℕ) (i : Index) (en
   pub parts_valid : Valid parts
   parts_valid = book_valid (in_draft d) 0 parts end given
 
-  pub parts_fit : All Fit (fields parts)
+  pub parts_fit : AllByRecursion Fit (fields parts)
   parts_fit = (book_whole (in_draft d) 0 parts end given).fit
 
   pub write_value : (room : ℕ) → fitted (encode parts) room ≡ written d room

@@ -1,10 +1,10 @@
 -- A draft as a source of fields.
 use Rattle.std.specs.Prelude.{ℕ, ◌+◌, ◌-◌, ◌^◌, min, cond, List, [], length, Some, None, Ok, Option, Result, nat_lt, slice_index, slice_index_or}
 use Rattle.questions.specs.declared.question.Question.{Question}
-use Rattle.fields.specs.declared.field.Field.{Field}
-use Rattle.fields.specs.declared.field.Fault.{Fault}
-use Rattle.fields.specs.Fields.{layout}
-use Rattle.source.specs.Readings.{Source, refuse}
+use Rattle.book_fields.specs.declared.field.Field.{Field}
+use Rattle.book_fields.specs.declared.field.Fault.{Fault}
+use Rattle.book_fields.specs.Fields.{layout}
+use Rattle.book_source.specs.Readings.{Source, refuse}
 use Rattle.draft.specs.declared.draft.Draft.{Draft}
 
 -- what stands at a place of a slice, if the slice has the place

@@ -3,7 +3,7 @@ use Rattle.std.specs.Prelude.{ℕ, ◌+◌, ◌-◌, ◌^◌, ◌<◌, ◌≤◌
 use Rattle.bits.specs.Bits.{spell}
 use Rattle.bits.specs.Bytes.{packed}
 use Rattle.grammar.specs.Contents.{Contents}
-use Rattle.fields.specs.Fields.{layout}
+use Rattle.book_fields.specs.Fields.{layout}
 use Rattle.draft.specs.Entries.{Entry, fields}
 
 -- a value in a field laid out so: what the reader adds is taken away

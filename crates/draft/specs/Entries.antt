@@ -1,7 +1,7 @@
 -- The fields of a book in their order, each with its value.
 use Rattle.std.specs.Prelude.{ℕ, ◌+◌, List, [], ◌∷◌, ◌++◌, map, length}
 use Rattle.std.specs.List.{flat_map}
-use Rattle.fields.specs.declared.field.Field.{Field}
+use Rattle.book_fields.specs.declared.field.Field.{Field}
 use Rattle.grammar.specs.Contents.{Table, Contents}
 
 abbrev pub Entry : Type 0

@@ -1,9 +1,9 @@
 -- What writing a list of fields asks, and what it leaves.
 use Rattle.std.specs.Prelude.{◌≡◌, ℕ, ◌+◌, ◌*◌, ◌≤◌, List, ◌++◌, length, drop}
-use Rattle.std.specs.List.{AllByRecursion as All}
+use Rattle.std.specs.List.{AllByRecursion}
 use Rattle.bits.specs.Ink.{inked, place}
 use Rattle.bits.specs.declared.pen.Pen.{Pen}
-use Rattle.fields.specs.declared.field.Field.{Field}
+use Rattle.book_fields.specs.declared.field.Field.{Field}
 use Rattle.draft.specs.Entries.{Entry}
 use Rattle.draft.specs.Encoding.{spelt, Fit}
 use Rattle.draft.specs.declared.strokes.Run.{Run}
@@ -12,7 +12,7 @@ use Rattle.draft.specs.declared.strokes.Run.{Run}
 pub record Ready (pen : Pen) (out : List ℕ) (es : List Entry) : Type 0 where
   pub room : place pen + length (spelt (place pen) es) ≤ 8 * length out
   pub short : length out ≤ 32768
-  pub fit : All Fit es
+  pub fit : AllByRecursion Fit es
 
 -- a pen has written the fields behind what it had written, and nothing further on has changed
 pub record Wrote (out : List ℕ) (pen : Pen) (out' : List ℕ) (pen' : Pen) (es : List Entry) : Type 0 where

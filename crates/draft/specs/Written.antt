@@ -1,11 +1,11 @@
 -- What writing gives: the bytes of a file, or the first question answered no.
 use Rattle.std.specs.Prelude.{◌≡◌, ℕ, ◌≤◌, List, ◌++◌, map, length, take, drop, Ok, Err, Result, nat_le}
 use Rattle.questions.specs.declared.question.Question.{Question}
-use Rattle.fields.specs.declared.field.Field.{Field}
-use Rattle.fields.specs.declared.field.Fault.{Fault}
+use Rattle.book_fields.specs.declared.field.Field.{Field}
+use Rattle.book_fields.specs.declared.field.Fault.{Fault}
 use Rattle.grammar.specs.Contents.{Contents}
 use Rattle.grammar.specs.Layout.{cut, table_of}
-use Rattle.source.specs.Readings.{ask, and_then}
+use Rattle.book_source.specs.Readings.{ask, and_then}
 use Rattle.grammar.specs.Grammar.{book}
 use Rattle.book.specs.Parse.{parse, row_count}
 use Rattle.draft.specs.Drafts.{in_draft}

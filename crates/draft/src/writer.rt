@@ -1,6 +1,6 @@
 // Writing a whole book.
 ghost use Rattle.std.specs.Prelude.{◌≡◌, ◌≤◌, length, IfOk, sum};
-ghost use Rattle.std.specs.List.{AllByRecursion as All};
+ghost use Rattle.std.specs.List.{AllByRecursion};
 ghost use Rattle.grammar.specs.Contents.{Valid};
 ghost use Rattle.draft.specs.Entries.{fields};
 ghost use Rattle.draft.specs.Encoding.{Fit, encode};
@@ -48,7 +48,7 @@ fn file_length(parts: &Parts) -> usize
 fn put_book(out: &mut [u8], parts: &Parts)
     requires valid { Valid (contents_in parts.now) }
     requires spelled { length parts.now.letters.now ≡ sum parts.now.lengths.now }
-    requires fit { All Fit (fields (contents_in parts.now)) }
+    requires fit { AllByRecursion Fit (fields (contents_in parts.now)) }
     requires long { length out.old ≡ file_length_of (contents_in parts.now) }
     ensures { out.new ≡ encode (contents_in parts.now) }
 {
@@ -67,7 +67,7 @@ pub fn write_parts(parts: &Parts, out: &mut [u8]) -> Result<usize, Fault>
     requires valid { Valid (contents_in parts.now) }
     requires spelled { length parts.now.letters.now ≡ sum parts.now.lengths.now }
     requires short { length parts.now.letters.now ≤ 32768 }
-    requires fit { All Fit (fields (contents_in parts.now)) }
+    requires fit { AllByRecursion Fit (fields (contents_in parts.now)) }
     ensures value { result ≡ counted (fitted (encode (contents_in parts.now)) (length out.old)) }
     ensures out { out.new ≡ overwritten (fitted (encode (contents_in parts.now)) (length out.old)) out.old }
     ensures inside { IfOk result (λ n. n ≤ length out.new) }

@@ -2,7 +2,7 @@
 use Rattle.std.proofs.Common.{◌≡◌, ℕ, ◌+◌, ◌-◌, ◌<◌, ◌≤◌, List, [], ◌∷◌, ◌++◌, map, length, take, drop, set, sym, refl, ap, ◌∙◌, subst, arith, length-drop, length-take, length-take-le, take-take, take_at}
 use mathlib.Core.List.{map-append}
 use borrow.Rule.Slice.PartMut.{put_mid}
-use Rattle.std.specs.List.{AllByRecursion as All, flat_map}
+use Rattle.std.specs.List.{AllByRecursion, flat_map}
 use Rattle.std.proofs.lemmas.List.{drop-take, take_more_set, flat_map_more, length-map}
 use Rattle.std.proofs.ByRecursion.{All-push, All-weaker}
 use Rattle.std.proofs.lemmas.Slice.{take-put_mid, between-put_mid}
@@ -10,7 +10,7 @@ use Rattle.grammar.specs.Layout.{Headed, Laid, table_of, padded, Padded, laid}
 use Rattle.grammar.specs.declared.index.TableIndex.{TableIndex}
 
 -- rows that are padded are their values, padded
-pub padded_all : (n : ℕ) (rows : List (List ℕ)) → All (Padded n) rows → map (padded n) (map (take n) rows) ≡ rows
+pub padded_all : (n : ℕ) (rows : List (List ℕ)) → AllByRecursion (Padded n) rows → map (padded n) (map (take n) rows) ≡ rows
 padded_all n [] a = refl
 padded_all n (r ∷ rows) a = (λ t. sym a.0 t ∷ padded_all n rows a.1 t)
 
@@ -28,7 +28,7 @@ module _ (options first : ℕ) (t : TableIndex) (h : Headed options first t) (ou
   pub put_table_lem : table_of new t ≡ record { scope = take t.arity t.scope; rows = map (take t.arity) rows }
   put_table_lem = (λ i. record { scope = take t.arity t.scope; rows = map (take t.arity) (put_rows_lem i) })
 
-  pub put_grown : All (Padded t.arity) rows → take (first + t.count) new ≡ take first out ++ laid (table_of new t)
+  pub put_grown : AllByRecursion (Padded t.arity) rows → take (first + t.count) new ≡ take first out ++ laid (table_of new t)
   put_grown a =
       let n : length (take t.arity t.scope) ≡ t.arity = length-take-le t.arity t.scope (omega (arith, h.few, h.full)) in
       take-put_mid first (first + t.count - first) out rows (first + t.count) (omega arith) (omega (arith, h.ends))
@@ -47,7 +47,7 @@ table_agrees xs ys n t e h =
     let same = window xs t.start t.count n h ∙ ap (λ l. take t.count (drop t.start l)) e ∙ sym (window ys t.start t.count n h) in
     (λ i. record { scope = take t.arity t.scope; rows = map (take t.arity) (same i) })
 
-pub tables_agree : (xs ys : List (List ℕ)) (n : ℕ) (ts : List TableIndex) → take n xs ≡ take n ys → All (λ t. t.start + t.count ≤ n) ts → map (table_of xs) ts ≡ map (table_of ys) ts
+pub tables_agree : (xs ys : List (List ℕ)) (n : ℕ) (ts : List TableIndex) → take n xs ≡ take n ys → AllByRecursion (λ t. t.start + t.count ≤ n) ts → map (table_of xs) ts ≡ map (table_of ys) ts
 tables_agree xs ys n [] e a = refl
 tables_agree xs ys n (t ∷ ts) e a = (λ i. table_agrees xs ys n t e a.0 i ∷ tables_agree xs ys n ts e a.1 i)
 
@@ -71,6 +71,6 @@ module _ (options first : ℕ) (t : TableIndex) (h : Headed options first t) (re
   laid_more = record {
     few = h.ends;
     are = grown ∙ ap (λ l. l ++ laid (table_of new t)) so.are ∙ flat_map_more laid [] (map (table_of out) (take k read)) (table_of new t) ∙ ap (flat_map laid) (sym tables_more);
-    ends = subst (All (λ t'. t'.start + t'.count ≤ first + t.count)) (sym (take_more_set read k t lt))
+    ends = subst (AllByRecursion (λ t'. t'.start + t'.count ≤ first + t.count)) (sym (take_more_set read k t lt))
         (All-push (λ t'. t'.start + t'.count ≤ first + t.count) (take k read) t (All-weaker (λ t'. t'.start + t'.count ≤ first) _ (λ x e. omega arith) (take k read) so.ends) (omega (arith, h.starts)));
   }

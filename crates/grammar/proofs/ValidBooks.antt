@@ -1,14 +1,14 @@
 -- What is read, from whatever source, is a valid book.
 use Rattle.std.proofs.Common.{◌≡◌, ℕ, zero, suc, ◌+◌, ◌<◌, ◌≤◌, true, List, [], ◌∷◌, map, length, get_or, Some, None, Ok, sum, Option, sym, ap, ◌∙◌, subst, add-zero, zero-add, arith}
-use Rattle.std.specs.List.{AllByRecursion as All}
+use Rattle.std.specs.List.{AllByRecursion}
 use Rattle.std.proofs.lemmas.List.{length-map}
 use Rattle.std.proofs.lemmas.List.Sums.{sum_by-cons}
 use Rattle.questions.specs.declared.question.Question.{Question}
-use Rattle.fields.specs.declared.field.Field.{Field}
+use Rattle.book_fields.specs.declared.field.Field.{Field}
 use Rattle.grammar.specs.Contents.{Table, Contents, ValidTable, Valid}
-use Rattle.source.specs.Readings.{Source, each, within}
+use Rattle.book_source.specs.Readings.{Source, each, within}
 use Rattle.grammar.specs.Grammar.{shape, shapes, member, scope, value, values, rises, row, rows, row_limit_of, heading, table, tables, counts, tail, book}
-use Rattle.source.proofs.Inversion.{ok_so, ask_so, then_so, next_so, within_so, Chain, each_so}
+use Rattle.book_source.proofs.Inversion.{ok_so, ask_so, then_so, next_so, within_so, Chain, each_so}
 use Rattle.grammar.proofs.Cuts.{length_cut}
 use Rattle.grammar.proofs.Rising.{Rises, rises_apart}
 
@@ -119,7 +119,7 @@ table_valid s sizes c at t end e =
       omega (arith, all.0),
     )))))))))
 
-tables_all : (sizes : List ℕ) (c : ℕ × ℕ) (ts : List Table) → Chain (λ c t. (c.0 + 1, c.1 + length t.rows)) (Tabled sizes) c ts → All (ValidTable sizes) ts
+tables_all : (sizes : List ℕ) (c : ℕ × ℕ) (ts : List Table) → Chain (λ c t. (c.0 + 1, c.1 + length t.rows)) (Tabled sizes) c ts → AllByRecursion (ValidTable sizes) ts
 unfolding Tabled
 tables_all sizes c [] h = tt
 tables_all sizes c (t ∷ ts) h = (h.0.0, tables_all sizes (c.0 + 1, c.1 + length t.rows) ts h.1)
@@ -143,17 +143,17 @@ shape_valid s i at o end e =
     within_so s (Field.Size i) 1 33 at size a was (λ _ low high.
     let is : size ≡ o.0 = ap (λ q. q.0.0) (ok_so last) in (omega arith, omega arith))))
 
-shaped_all : (i : ℕ) (os : List (ℕ × ℕ)) → Chain (λ i _. i + 1) Shaped i os → All (λ s. (1 ≤ s) × (s ≤ 32)) (map (λ o. o.0) os)
+shaped_all : (i : ℕ) (os : List (ℕ × ℕ)) → Chain (λ i _. i + 1) Shaped i os → AllByRecursion (λ s. (1 ≤ s) × (s ≤ 32)) (map (λ o. o.0) os)
 unfolding Shaped
 shaped_all i [] h = tt
 shaped_all i (o ∷ os) h = (h.0, shaped_all (i + 1) os h.1)
 
-shapes_valid : (s : Source) (n at : ℕ) (os : List ℕ × List ℕ) (end : ℕ) → shapes s n at ≡ Ok (os, end) → (length os.0 ≡ n) × (length os.1 ≡ n) × All (λ s. (1 ≤ s) × (s ≤ 32)) os.0
+shapes_valid : (s : Source) (n at : ℕ) (os : List ℕ × List ℕ) (end : ℕ) → shapes s n at ≡ Ok (os, end) → (length os.0 ≡ n) × (length os.1 ≡ n) × AllByRecursion (λ s. (1 ≤ s) × (s ≤ 32)) os.0
 shapes_valid s n at os end e =
     next_so (each (shape s) (λ i _. i + 1) 0 n) _ at e (λ ps a was last.
     let all = each_so (shape s) (λ i _. i + 1) Shaped (shape_valid s) n 0 at ps a was in
     let is : (map (λ o. o.0) ps, map (λ o. o.1) ps) ≡ os = ap (λ q. q.0) (ok_so last) in
-    subst (λ os. (length os.0 ≡ n) × (length os.1 ≡ n) × All (λ s. (1 ≤ s) × (s ≤ 32)) os.0) is
+    subst (λ os. (length os.0 ≡ n) × (length os.1 ≡ n) × AllByRecursion (λ s. (1 ≤ s) × (s ≤ 32)) os.0) is
     (length-map ps (λ o. o.0) ∙ all.0, length-map ps (λ o. o.1) ∙ all.0, shaped_all 0 ps all.1))
 
 pub book_valid : (s : Source) (at : ℕ) (c : Contents) (end : ℕ) → book s at ≡ Ok (c, end) → Valid c

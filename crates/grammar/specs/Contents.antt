@@ -1,6 +1,6 @@
 -- What a book says: options with their sizes and names, and tables of allowed rows. Options, values, tables and places are numbered from 0.
 use Rattle.std.specs.Prelude.{◌≡◌, ℕ, ◌<◌, ◌≤◌, List, [], map, length, sum, ◌≢◌, slice_index, slice_index_or}
-use Rattle.std.specs.List.{AllByRecursion as All}
+use Rattle.std.specs.List.{AllByRecursion}
 
 -- A table. Its scope is the options that it speaks of, in rising order; a row gives a value for each of them.
 pub record Table : Type 0 where
@@ -25,7 +25,7 @@ on_scope values scope = map (λ x. slice_index values x) scope
 pub record Fit (c : Contents) (values : List ℕ) : Type 0 where
   pub each : length values ≡ length c.sizes
   pub within : (x : ℕ) → x < length c.sizes → slice_index values x < slice_index c.sizes x
-  pub listed : All (λ t. Listed t.rows (on_scope values t.scope)) c.tables
+  pub listed : AllByRecursion (λ t. Listed t.rows (on_scope values t.scope)) c.tables
 
 -- a table of a book whose options have these sizes
 pub record ValidTable (sizes : List ℕ) (t : Table) : Type 0 where
@@ -43,7 +43,7 @@ pub record Valid (c : Contents) : Type 0 where
   pub some : 1 ≤ length c.sizes
   pub few : length c.sizes ≤ 24
   pub named : length c.names ≡ length c.sizes
-  pub sized : All (λ s. (1 ≤ s) × (s ≤ 32)) c.sizes
+  pub sized : AllByRecursion (λ s. (1 ≤ s) × (s ≤ 32)) c.sizes
   pub tabled : length c.tables ≤ 48
-  pub tables : All (ValidTable c.sizes) c.tables
+  pub tables : AllByRecursion (ValidTable c.sizes) c.tables
   pub short : sum (map (λ t. length t.rows) c.tables) ≤ 8192

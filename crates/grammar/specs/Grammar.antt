@@ -1,10 +1,10 @@
 -- The order of the fields of a book, with the values that each may have.
 use Rattle.std.specs.Prelude.{ℕ, ◌+◌, ◌-◌, min, Bool, true, false, cond, List, [], ◌∷◌, map, length, Some, None, Ok, sum, Option, ◌==◌, nat_lt, slice_index}
 use Rattle.questions.specs.declared.question.Question.{Question}
-use Rattle.fields.specs.declared.field.Field.{Field}
+use Rattle.book_fields.specs.declared.field.Field.{Field}
 use Rattle.grammar.specs.Contents.{Table, Contents}
 use Rattle.grammar.specs.Layout.{cut}
-use Rattle.source.specs.Readings.{Reading, Source, and_then, ask, give, next, within, each}
+use Rattle.book_source.specs.Readings.{Reading, Source, and_then, ask, give, next, within, each}
 
 -- the size of the option i, and the length of its name
 abbrev pub shape : Source → ℕ → Reading (ℕ × ℕ)

@@ -1,6 +1,6 @@
 -- How a read book keeps its contents: the rows of all tables lie in one slice, table after table, and a row has four places.
 use Rattle.std.specs.Prelude.{◌≡◌, ℕ, ◌+◌, ◌-◌, ◌<◌, ◌≤◌, List, [], ◌∷◌, ◌++◌, map, length, take, drop, replicate, sum, slice_index}
-use Rattle.std.specs.List.{flat_map, AllByRecursion as All}
+use Rattle.std.specs.List.{flat_map, AllByRecursion}
 use Rattle.grammar.specs.Contents.{Table, Contents}
 use Rattle.grammar.specs.declared.index.TableIndex.{TableIndex}
 use Rattle.grammar.specs.declared.index.Index.{Index}
@@ -33,7 +33,7 @@ laid t = map (padded (length t.scope)) t.rows
 pub record Laid (ts : List TableIndex) (rows : List (List ℕ)) (n : ℕ) : Type 0 where
   pub few : n ≤ 8192
   pub are : take n rows ≡ flat_map laid (map (table_of rows) ts)
-  pub ends : All (λ t. t.start + t.count ≤ n) ts
+  pub ends : AllByRecursion (λ t. t.start + t.count ≤ n) ts
 
 -- the names, one after another
 abbrev pub cut : List ℕ → List ℕ → List (List ℕ)

@@ -1,7 +1,7 @@
 -- Sets of one value each: every table is universal in them exactly where the values are a listed row of each.
 use Rattle.std.proofs.Common.{◌≡◌, ℕ, zero, suc, ◌%◌, ◌^◌, ◌<◌, ◌≤◌, List, [], ◌∷◌, length, get_or, take, sym, ap, ◌∙◌, subst, mod-eq_of_lt, arith}
 use lib.Pow.{pow-lt}
-use Rattle.std.specs.List.{AllByRecursion as All}
+use Rattle.std.specs.List.{AllByRecursion}
 use Rattle.std.proofs.lemmas.List.{get_or-take, length-take-le}
 use Rattle.grammar.specs.Contents.{Table, Contents, Listed, on_scope, ValidTable, Valid}
 use Rattle.values.specs.Members.{In}
@@ -25,11 +25,11 @@ module _ (sizes : List ℕ) (sets : Sets) (values : List ℕ) (one : (x : ℕ) �
   universal_if : (t : Table) → ValidTable sizes t → Listed t.rows (on_scope values t.scope) → Universal sets t
   universal_if t ok at row live = subst (Listed t.rows) (sym (single_row sets values t.scope row (λ j l. one (get_or t.scope j 0) (ok.known j l)) live)) at
 
-  all_listed : (tables : List Table) → All (ValidTable sizes) tables → ((i : ℕ) → i < length tables → Universal sets (get_or tables i no_table)) → All (λ t. Listed t.rows (on_scope values t.scope)) tables
+  all_listed : (tables : List Table) → AllByRecursion (ValidTable sizes) tables → ((i : ℕ) → i < length tables → Universal sets (get_or tables i no_table)) → AllByRecursion (λ t. Listed t.rows (on_scope values t.scope)) tables
   all_listed [] ok u = tt
   all_listed (t ∷ ts) ok u = (listed_if t ok.0 (u 0 (omega arith)), all_listed ts ok.1 (λ i l. u (suc i) (omega arith)))
 
-  listed_all : (tables : List Table) → All (ValidTable sizes) tables → All (λ t. Listed t.rows (on_scope values t.scope)) tables → (i : ℕ) → i < length tables → Universal sets (get_or tables i no_table)
+  listed_all : (tables : List Table) → AllByRecursion (ValidTable sizes) tables → AllByRecursion (λ t. Listed t.rows (on_scope values t.scope)) tables → (i : ℕ) → i < length tables → Universal sets (get_or tables i no_table)
   listed_all [] ok at i l = absurd (omega arith)
   listed_all (t ∷ ts) ok at zero l = universal_if t ok.0 at.0
   listed_all (t ∷ ts) ok at (suc i) l = listed_all ts ok.1 at.1 i (omega arith)

@@ -1,6 +1,6 @@
 -- What a book's tables are known to be.
 use Rattle.std.proofs.Common.{◌≡◌, ℕ, suc, ◌<◌, ◌≤◌, List, [], ◌∷◌, map, length, get_or, take, drop, sym, refl, ap, ◌∙◌, subst, ap₂, arith, length-take}
-use Rattle.std.specs.List.{ContainsAt as Has, AllByRecursion as All}
+use Rattle.std.specs.List.{ContainsAt as Has, AllByRecursion}
 use Rattle.std.proofs.lemmas.List.{get_or-map, get_or-take, length-map}
 use Rattle.std.proofs.ByRecursion.{All-get_or, has_get_or}
 use Rattle.grammar.specs.Contents.{Table, Contents, ValidTable, Valid}
@@ -79,7 +79,7 @@ pub one_of : (b : Book) (tables : List TableIndex) (i : ℕ) → tables ≡ tabl
 one_of b tables i e l = subst (λ ts. Has ts (get_or tables i blank)) e (has_get_or tables i blank l)
 
 -- what holds of every table of the contents holds of it
-pub all_at : (P : Table → Type 0) (b : Book) (tables : List TableIndex) (i : ℕ) → tables ≡ tables_at b → i < length tables → All P (contents b).tables → P (table_at b (get_or tables i blank))
+pub all_at : (P : Table → Type 0) (b : Book) (tables : List TableIndex) (i : ℕ) → tables ≡ tables_at b → i < length tables → AllByRecursion P (contents b).tables → P (table_at b (get_or tables i blank))
 all_at P b tables i e l all =
     subst P (get_or-map (table_at b) tables i blank (table_at b blank) l)
-    (All-get_or P (map (table_at b) tables) i (table_at b blank) (subst (λ n. i < n) (sym (length-map tables (table_at b))) l) (subst (λ ts. All P (map (table_at b) ts)) (sym e) all))
+    (All-get_or P (map (table_at b) tables) i (table_at b blank) (subst (λ n. i < n) (sym (length-map tables (table_at b))) l) (subst (λ ts. AllByRecursion P (map (table_at b) ts)) (sym e) all))

@@ -1,7 +1,7 @@
 -- Steps of propagation.
 use Rattle.std.proofs.Common.{◌≡◌, ℕ, ◌+◌, ◌^◌, ◌<◌, ◌≤◌, List, [], ◌∷◌, ◌++◌, length, get_or, set, sym, refl, ◌∙◌, subst, inl, inr, arith, pow_pos}
 use lib.Bits.{bit_and, bit_or, and_le_l}
-use Rattle.std.specs.List.{AllByRecursion as All}
+use Rattle.std.specs.List.{AllByRecursion}
 use Rattle.std.proofs.lemmas.List.{get_or-set_same, get_or-set_other}
 use Rattle.std.proofs.lemmas.List.Sums.{sum_by-set}
 use Rattle.std.proofs.lemmas.Bool.{cases_eq, cases_lt}
@@ -102,6 +102,6 @@ module _ (options : ℕ) (t : Table) (seen before : List ℕ) where
         (λ k v l h. coll.sound k v l (all.held e k v (omega arith) h));
   }
 
-pub all_parts : {X : Type 0} (P : X → Type 0) (xs : List X) (y : X) → All P (xs ++ y ∷ []) → All P xs × P y
+pub all_parts : {X : Type 0} (P : X → Type 0) (xs : List X) (y : X) → AllByRecursion P (xs ++ y ∷ []) → AllByRecursion P xs × P y
 all_parts P [] y h = (tt, h.0)
 all_parts P (x ∷ xs) y h = let r = all_parts P xs y h.1 in ((h.0, r.0), r.1)

@@ -1,6 +1,6 @@
 -- From the array that the rounds work on to what propagation promises of the array that it was given.
 use Rattle.std.proofs.Common.{◌≡◌, ℕ, ◌-◌, ◌%◌, ◌^◌, ◌<◌, ◌≤◌, List, [], ◌∷◌, length, get_or, sym, refl, ap, ◌∙◌, subst, inl, inr, mod-eq_of_lt, arith}
-use Rattle.std.specs.List.{AllByRecursion as All}
+use Rattle.std.specs.List.{AllByRecursion}
 use Rattle.std.proofs.lemmas.List.{get_or_past}
 use Rattle.std.proofs.lemmas.Bool.{cases_lt}
 use Rattle.grammar.specs.Contents.{Table, Contents, ValidTable, Valid}
@@ -17,17 +17,17 @@ pub none_past : (c : Contents) (array : List ℕ) (x v : ℕ) → length c.sizes
 none_past c array x v past h = omega (arith, (in_mod (get_or array x 0) (get_or c.sizes x 0) v h).1, get_or_past c.sizes x 0 past)
 
 -- sets that agree on the options of the book
-pub closed_like : (sizes : List ℕ) (a b : Sets) → ((x : ℕ) → x < length sizes → a x ≡ b x) → (tables : List Table) → All (ValidTable sizes) tables → Closed tables a → Closed tables b
+pub closed_like : (sizes : List ℕ) (a b : Sets) → ((x : ℕ) → x < length sizes → a x ≡ b x) → (tables : List Table) → AllByRecursion (ValidTable sizes) tables → Closed tables a → Closed tables b
 closed_like sizes a b same [] ok up = tt
 closed_like sizes a b same (t ∷ ts) ok up = (upheld_like t a b (λ j l. same (get_or t.scope j 0) (ok.0.known j l)) up.0, closed_like sizes a b same ts ok.1 up.1)
 
-pub settled_like : (sizes : List ℕ) (a b : Sets) → ((x : ℕ) → x < length sizes → a x ≡ b x) → (pending : ℕ) (tables : List Table) → All (ValidTable sizes) tables → Settled tables a pending → Settled tables b pending
+pub settled_like : (sizes : List ℕ) (a b : Sets) → ((x : ℕ) → x < length sizes → a x ≡ b x) → (pending : ℕ) (tables : List Table) → AllByRecursion (ValidTable sizes) tables → Settled tables a pending → Settled tables b pending
 settled_like sizes a b same pending [] ok up = tt
 settled_like sizes a b same pending (t ∷ ts) ok up =
     (λ clear. upheld_like t a b (λ j l. same (get_or t.scope j 0) (ok.0.known j l)) (up.0 clear), settled_like sizes a b same pending ts ok.1 up.1)
 
 -- every table has an option, so all options are enough to look at
-pub settled_all : (sizes : List ℕ) (sets : Sets) → length sizes ≤ 32 → (tables : List Table) → All (ValidTable sizes) tables → Settled tables sets (2 ^ 32 - 1)
+pub settled_all : (sizes : List ℕ) (sets : Sets) → length sizes ≤ 32 → (tables : List Table) → AllByRecursion (ValidTable sizes) tables → Settled tables sets (2 ^ 32 - 1)
 settled_all sizes sets few [] ok = tt
 settled_all sizes sets few (t ∷ ts) ok =
     (λ clear. absurd (clear (get_or t.scope 0 0) (0, ok.0.some, refl) (full_in 32 (get_or t.scope 0 0) (omega (arith, ok.0.known 0 ok.0.some)))), settled_all sizes sets few ts ok.1)
@@ -73,7 +73,7 @@ module _ (c : Contents) (start trimmed : List ℕ) (trim : Trimmed c start trimm
 pub settled_after : (c : Contents) → Valid c → (a b : List ℕ) → Closed c.tables (sets_of c a) → (pending : ℕ) → ((x : ℕ) → x < length c.sizes → (In pending x → ⊥) → get_or a x 0 ≡ get_or b x 0) → Settled c.tables (sets_of c b) pending
 settled_after c ok a b closed pending same = go c.tables ok.tables closed
   where
-    go : (tables : List Table) → All (ValidTable c.sizes) tables → Closed tables (sets_of c a) → Settled tables (sets_of c b) pending
+    go : (tables : List Table) → AllByRecursion (ValidTable c.sizes) tables → Closed tables (sets_of c a) → Settled tables (sets_of c b) pending
     go [] ok up = tt
     go (t ∷ ts) ok up = (
       λ clear. upheld_like t (sets_of c a) (sets_of c b)

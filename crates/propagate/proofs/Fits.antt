@@ -1,6 +1,6 @@
 -- Propagation and the fits of a book.
 use Rattle.std.proofs.Common.{◌≡◌, ℕ, suc, ◌^◌, ◌<◌, List, [], ◌∷◌, map, length, get_or, sym, refl, ◌∙◌, subst, ap₂, inl, inr, arith}
-use Rattle.std.specs.List.{AllByRecursion as All}
+use Rattle.std.specs.List.{AllByRecursion}
 use Rattle.std.proofs.lemmas.List.{get_or-map, get_or_past, length-map, ext_get_or}
 use Rattle.std.proofs.lemmas.Bool.{cases_lt}
 use Rattle.grammar.specs.Contents.{Table, Contents, Listed, on_scope, Fit, ValidTable, Valid}
@@ -42,7 +42,7 @@ single_upheld values sizes e t ok at j v l h = (
   get_or-map (λ x. get_or values x 0) t.scope j 0 0 l ∙ sym (single_only values (get_or t.scope j 0) v h).1,
 )
 
-single_closed : (values sizes : List ℕ) → length values ≡ length sizes → (tables : List Table) → All (ValidTable sizes) tables → All (λ t. Listed t.rows (on_scope values t.scope)) tables → Closed tables (single values)
+single_closed : (values sizes : List ℕ) → length values ≡ length sizes → (tables : List Table) → AllByRecursion (ValidTable sizes) tables → AllByRecursion (λ t. Listed t.rows (on_scope values t.scope)) tables → Closed tables (single values)
 single_closed values sizes e [] ok at = tt
 single_closed values sizes e (t ∷ ts) ok at = (single_upheld values sizes e t ok.0 at.0, single_closed values sizes e ts ok.1 at.1)
 
@@ -107,8 +107,8 @@ single_row sets values (x ∷ scope) (v ∷ row) one h =
     ap₂ (λ w ws. w ∷ ws) (in_one_only (get_or values x 0) v (subst (λ s. In s v) (one 0 (omega arith)) h.0))
     (single_row sets values scope row (λ j l. one (suc j) (omega arith)) h.1)
 
-single_listed : (sizes : List ℕ) (sets : Sets) (values : List ℕ) → ((x : ℕ) → x < length sizes → sets x ≡ 2 ^ get_or values x 0) → (tables : List Table) → All (ValidTable sizes) tables → Closed tables sets
-    → All (λ t. Listed t.rows (on_scope values t.scope)) tables
+single_listed : (sizes : List ℕ) (sets : Sets) (values : List ℕ) → ((x : ℕ) → x < length sizes → sets x ≡ 2 ^ get_or values x 0) → (tables : List Table) → AllByRecursion (ValidTable sizes) tables → Closed tables sets
+    → AllByRecursion (λ t. Listed t.rows (on_scope values t.scope)) tables
 single_listed sizes sets values one [] ok up = tt
 single_listed sizes sets values one (t ∷ ts) ok up =
     let on-scope = λ (j : ℕ) (l : j < length t.scope). one (get_or t.scope j 0) (ok.0.known j l) in

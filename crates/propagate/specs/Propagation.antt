@@ -1,6 +1,6 @@
 -- Propagation: the largest sets inside given ones in which every value has support.
 use Rattle.std.specs.Prelude.{◌≡◌, ℕ, ◌<◌, ◌≤◌, List, length, slice_index}
-use Rattle.std.specs.List.{AllByRecursion as All}
+use Rattle.std.specs.List.{AllByRecursion}
 use Rattle.grammar.specs.Contents.{Table, Contents}
 use Rattle.values.specs.Members.{In}
 use Rattle.propagate.specs.Sets.{Sets, Inside, sets_of}
@@ -37,4 +37,4 @@ Avoids scope options = (x : ℕ) → Mentions scope x → In options x → ⊥
 
 -- Only these options are left to look at: in every table whose scope has none of them, every value has support.
 abbrev pub Settled : List Table → Sets → ℕ → Type 0
-Settled tables sets pending = All (λ t. Avoids t.scope pending → Upheld t sets) tables
+Settled tables sets pending = AllByRecursion (λ t. Avoids t.scope pending → Upheld t sets) tables

@@ -1,6 +1,6 @@
 -- Live rows, and the values that have support.
 use Rattle.std.specs.Prelude.{◌≡◌, ℕ, ◌/◌, ◌%◌, ◌^◌, ◌<◌, Bool, true, false, ◌&&◌, List, [], ◌∷◌, length, ◌==◌, slice_index}
-use Rattle.std.specs.List.{AllZip, AllByRecursion as All}
+use Rattle.std.specs.List.{AllZip, AllByRecursion}
 use Rattle.grammar.specs.Contents.{Table, Listed}
 use Rattle.values.specs.Members.{In}
 use Rattle.propagate.specs.Sets.{Sets}
@@ -27,7 +27,7 @@ Upheld t sets = (j v : ℕ) → j < length t.scope → In (sets (slice_index t.s
 
 -- every value has support in every table whose scope has its option
 abbrev pub Closed : List Table → Sets → Type 0
-Closed tables sets = All (λ t. Upheld t sets) tables
+Closed tables sets = AllByRecursion (λ t. Upheld t sets) tables
 
 -- Live as a test, to count by
 abbrev pub is_in : ℕ → ℕ → Bool

@@ -1,11 +1,11 @@
 -- A book is its counts, its options, its tables and its names.
 use Rattle.std.proofs.Common.{◌≡◌, ℕ, List, ◌++◌, length, Ok, Err, sum, Result, sym, refl, ap, ◌∙◌, arith}
-use Rattle.fields.specs.declared.field.Fault.{Fault}
+use Rattle.book_fields.specs.declared.field.Fault.{Fault}
 use Rattle.grammar.specs.Contents.{Table}
 use Rattle.grammar.specs.Layout.{cut}
-use Rattle.source.specs.Readings.{Source, and_then, next, give, told}
+use Rattle.book_source.specs.Readings.{Source, and_then, next, give, told}
 use Rattle.grammar.specs.Grammar.{counts, shapes, tables, tail, book}
-use Rattle.source.proofs.Steps.{read_ok, next_ok}
+use Rattle.book_source.proofs.Steps.{read_ok, next_ok}
 use Rattle.grammar.proofs.Cuts.{cut_front}
 
 module _ (s₀ s₁ s₂ s₃ : Source) (a b d e n m x y : ℕ) (sizes lengths sizes' : List ℕ) (ts : List Table) (one : Result (ℕ × ℕ) Fault) (two three : Result ℕ Fault)

@@ -2,17 +2,17 @@
 #![tactic(auto)]
 
 ghost use Rattle.std.specs.Prelude.{◌≡◌, ◌≤◌, length, IfOk};
-ghost use Rattle.source.specs.Readings.{told};
+ghost use Rattle.book_source.specs.Readings.{told};
 ghost use Rattle.grammar.specs.Grammar.{counts, tail, book};
 ghost use Rattle.grammar.specs.Layout.{Indexed, contents_of};
 
 mod options;
 
 use crate::options::{letters, shapes};
-use fields::{Fault, Field};
+use book_fields::{Fault, Field};
+use book_source::{Source, within};
+use book_tables::tables;
 use grammar::{Index, Row, TableIndex};
-use source::{Source, within};
-use tables::tables;
 
 /// The edition, and the numbers of options and tables.
 fn counts<S: Source>(source: &mut S) -> Result<(usize, usize), Fault>

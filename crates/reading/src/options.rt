@@ -1,11 +1,11 @@
 // Reading the options: their sizes, and their names.
 ghost use Rattle.std.specs.Prelude.{◌≡◌, ◌*◌, ◌<◌, ◌≤◌, length, take, IfOk, sum};
-ghost use Rattle.std.specs.List.{AllByRecursion as All};
-ghost use Rattle.source.specs.Readings.{told};
+ghost use Rattle.std.specs.List.{AllByRecursion};
+ghost use Rattle.book_source.specs.Readings.{told};
 ghost use Rattle.grammar.specs.Grammar.{shape, shapes, letters};
 
-use fields::{Fault, Field};
-use source::{Source, within};
+use book_fields::{Fault, Field};
+use book_source::{Source, within};
 
 /// The size of an option, and the length of its name.
 fn shape<S: Source>(source: &mut S, option: usize) -> Result<(usize, usize), Fault>

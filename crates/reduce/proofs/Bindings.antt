@@ -1,7 +1,7 @@
 -- The options that tables bind.
 use Rattle.std.proofs.Common.{◌≡◌, ℕ, ◌+◌, ◌^◌, ◌<◌, ◌≤◌, ◌⊎◌, List, [], ◌∷◌, ◌++◌, length, get_or, sym, ap, ◌∙◌, subst, inl, inr, arith}
 use lib.Bits.{bit_or}
-use Rattle.std.specs.List.{AllByRecursion as All}
+use Rattle.std.specs.List.{AllByRecursion}
 use Rattle.std.proofs.ByRecursion.{All-push}
 use Rattle.std.proofs.lemmas.Bool.{cases_lt}
 use Rattle.grammar.specs.Contents.{Table, ValidTable}
@@ -83,6 +83,6 @@ module _ (sets : Sets) (tables : List Table) (t : Table) (bound : ℕ) (old : Bi
 pub universal_like : (a b : Sets) (t : Table) → ((j : ℕ) → j < length t.scope → a (get_or t.scope j 0) ≡ b (get_or t.scope j 0)) → Universal a t → Universal b t
 universal_like a b t same u row h = u row (live_like b a t.scope row (λ j v l. subst (λ n. In n v) (sym (same j l))) h)
 
-pub free_like : (sizes : List ℕ) (a b : Sets) → ((x : ℕ) → x < length sizes → a x ≡ b x) → (x : ℕ) (tables : List Table) → All (ValidTable sizes) tables → Free a tables x → Free b tables x
+pub free_like : (sizes : List ℕ) (a b : Sets) → ((x : ℕ) → x < length sizes → a x ≡ b x) → (x : ℕ) (tables : List Table) → AllByRecursion (ValidTable sizes) tables → Free a tables x → Free b tables x
 free_like sizes a b same x [] ok f = tt
 free_like sizes a b same x (t ∷ ts) ok f = (λ m. universal_like a b t (λ j l. same (get_or t.scope j 0) (ok.0.known j l)) (f.0 m), free_like sizes a b same x ts ok.1 f.1)

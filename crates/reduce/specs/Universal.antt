@@ -1,6 +1,6 @@
 -- Tables that rule nothing out.
 use Rattle.std.specs.Prelude.{ℕ, ◌*◌, ◌<◌, List, [], ◌∷◌, length, count_ones, slice_index_or}
-use Rattle.std.specs.List.{AllByRecursion as All}
+use Rattle.std.specs.List.{AllByRecursion}
 use Rattle.grammar.specs.Contents.{Table, Contents}
 use Rattle.propagate.specs.Sets.{Sets}
 use Rattle.propagate.specs.Support.{Mentions, Live, Allows}
@@ -11,7 +11,7 @@ Universal sets t = (row : List ℕ) → Live sets t.scope row → Allows t row
 
 -- Every table whose scope has the option is universal: so it is of an option in no table.
 abbrev pub Free : Sets → List Table → ℕ → Type 0
-Free sets tables x = All (λ t. Mentions t.scope x → Universal sets t) tables
+Free sets tables x = AllByRecursion (λ t. Mentions t.scope x → Universal sets t) tables
 
 -- how many combinations of values the scope's sets have
 abbrev pub ways : Sets → List ℕ → ℕ

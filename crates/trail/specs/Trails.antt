@@ -1,6 +1,6 @@
 -- A trail of saved sets, the last first, and how it is undone.
 use Rattle.std.specs.Prelude.{◌≡◌, ℕ, zero, suc, ◌+◌, ◌-◌, ◌<◌, List, [], ◌∷◌, length, take, drop, count_ones, slice_index, slice_set}
-use Rattle.std.specs.List.{AllByRecursion as All}
+use Rattle.std.specs.List.{AllByRecursion}
 use Rattle.trail.specs.declared.kinds.Branch.{Branch}
 use Rattle.trail.specs.declared.kinds.Saved.{Saved}
 use Rattle.trail.specs.declared.kinds.Side.{Side}
@@ -29,7 +29,7 @@ until m ts = drop (length ts - m) ts
 
 -- each save is of an option that has a place
 abbrev pub Known : List Saved → Type 0
-Known ts = All (λ t. t.option < 24) ts
+Known ts = AllByRecursion (λ t. t.option < 24) ts
 
 -- how many values the first options have together
 abbrev pub total : ℕ → List ℕ → ℕ

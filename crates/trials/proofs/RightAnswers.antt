@@ -1,6 +1,6 @@
 -- What the plain ask finds is a fit, and where it finds none there is none.
 use Rattle.std.proofs.Common.{◌≡◌, ℕ, suc, ◌-◌, ◌^◌, ◌<◌, List, [], ◌∷◌, length, get_or, sym, refl, ◌∙◌, subst, ap₂, inl, inr, arith}
-use Rattle.std.specs.List.{AllByRecursion as All}
+use Rattle.std.specs.List.{AllByRecursion}
 use Rattle.std.proofs.lemmas.List.{length-set}
 use Rattle.grammar.specs.Contents.{Table, Contents, Listed, on_scope, Fit, ValidTable, Valid}
 use Rattle.values.specs.Members.{In}
@@ -45,7 +45,7 @@ live_single sets values (x ∷ scope) (v ∷ row) one alive =
     (live_single sets values scope row (λ j l. one (suc j) (omega arith)) alive.1)
 
 listed_single : (sizes : List ℕ) (sets : Sets) (values : List ℕ) → ((x : ℕ) → x < length sizes → sets x ≡ 2 ^ get_or values x 0)
-    → (tables : List Table) → All (ValidTable sizes) tables → Closed tables sets → All (λ t. Listed t.rows (on_scope values t.scope)) tables
+    → (tables : List Table) → AllByRecursion (ValidTable sizes) tables → Closed tables sets → AllByRecursion (λ t. Listed t.rows (on_scope values t.scope)) tables
 listed_single sizes sets values one [] ok closed = tt
 listed_single sizes sets values one (t ∷ ts) ok closed =
     let x = get_or t.scope 0 0 in

@@ -1,12 +1,12 @@
 -- The worked cases of propagation and of rows.
 use Rattle.std.proofs.Common.{◌≡◌, ℕ, zero, suc, ◌<◌, ◌⊎◌, List, [], ◌∷◌, length, get_or, Some, Ok, sym, refl, ap, subst, inl, inr, arith, lit<}
-use Rattle.std.specs.List.{AllByRecursion as All}
+use Rattle.std.specs.List.{AllByRecursion}
 use Rattle.std.proofs.lemmas.Bool.{le-leb}
 use Rattle.questions.specs.declared.question.Question.{Question}
 use Rattle.bits.specs.Bits.{bits}
 use Rattle.grammar.specs.Contents.{Table, Contents, ValidTable, Valid, Listed}
-use Rattle.source.specs.Readings.{ask}
-use Rattle.fields.specs.declared.field.Field.{Field}
+use Rattle.book_source.specs.Readings.{ask}
+use Rattle.book_fields.specs.declared.field.Field.{Field}
 use Rattle.draft.specs.Encoding.{spelt}
 use Rattle.propagate.specs.Propagation.{LeavesNone}
 use Rattle.propagate.specs.Sets.{sets_of}
@@ -105,7 +105,7 @@ no_support t e row (i, l, at) = omega (arith, ap length e)
 
 module _ (c : Contents) (ok : Valid c) (t : Table) (one : c.tables ≡ t ∷ []) (bare : t.rows ≡ []) (array : List ℕ) where
   valid : ValidTable c.sizes t
-  valid = (subst (All (ValidTable c.sizes)) one ok.tables).0
+  valid = (subst (AllByRecursion (ValidTable c.sizes)) one ok.tables).0
 
   first : 0 < length t.scope
   first = omega (arith, valid.some)
@@ -114,7 +114,7 @@ module _ (c : Contents) (ok : Valid c) (t : Table) (one : c.tables ≡ t ∷ [])
   none_left = (
     get_or t.scope 0 0,
     valid.known 0 first,
-    λ other inside closed v h. let up : Upheld t other = (subst (All (λ t. Upheld t other)) one closed).0 in let row = up 0 v first h in no_support t bare row.0 row.1,
+    λ other inside closed v h. let up : Upheld t other = (subst (AllByRecursion (λ t. Upheld t other)) one closed).0 in let row = up 0 v first h in no_support t bare row.0 row.1,
   )
 
 -- where an option has no value left, an ask with a budget ends in one way

@@ -1,6 +1,6 @@
 -- A test for what holds of every book.
 use Rattle.std.proofs.Common.{◌≡◌, ℕ, ◌<◌, ◌≤◌, Bool, true, not, ◌&&◌, eqb, ltb, leb, List, [], ◌∷◌, map, length, get_or, sum}
-use Rattle.std.specs.List.{AllByRecursion as All}
+use Rattle.std.specs.List.{AllByRecursion}
 use Rattle.std.proofs.lemmas.Bool.{and_parts, leb-true, eqb-true}
 use Rattle.std.proofs.lemmas.Bool.Decides.{Decides-eqb, Decides-ltb, Decides-and, Decides-not}
 use Rattle.grammar.specs.Contents.{Table, Contents, ValidTable, Valid}
@@ -65,7 +65,7 @@ valid_table sizes t e =
       short = leb-true (length t.rows) 1024 s;
     }
 
-valid_tables : (sizes : List ℕ) (ts : List Table) → every (is_valid_table sizes) ts ≡ true → All (ValidTable sizes) ts
+valid_tables : (sizes : List ℕ) (ts : List Table) → every (is_valid_table sizes) ts ≡ true → AllByRecursion (ValidTable sizes) ts
 valid_tables sizes [] e = tt
 valid_tables sizes (t ∷ ts) e = let (p, q) = and_parts (is_valid_table sizes t) _ e in (valid_table sizes t p, valid_tables sizes ts q)
 

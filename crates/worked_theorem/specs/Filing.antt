@@ -2,7 +2,7 @@
 use Rattle.std.specs.Prelude.{◌≡◌, ℕ, ◌*◌, ◌≤◌, List, [], ◌∷◌, ◌++◌, map, length, Ok, codes}
 use Rattle.std.specs.List.{flat_map}
 use Rattle.book.specs.Parse.{parse}
-use Rattle.fields.specs.declared.field.Field.{Field}
+use Rattle.book_fields.specs.declared.field.Field.{Field}
 use Rattle.draft.specs.Encoding.{spelt, encode}
 use Rattle.draft.specs.Entries.{Entry, count_fields, option_fields, tables_fields, numbered, fields}
 use Rattle.worked_theorem.specs.Books.{sample}

@@ -1,10 +1,10 @@
 use Rattle.std.proofs.Common.{◌≡◌, ℕ, ◌-◌, ◌<◌, ◌++◌, get_or, take, drop, sym, ap, ◌∙◌, arith}
 use native.Mathlib.Nat.{sub-zero}
 use Rattle.grammar.specs.Grammar.{book}
-use Rattle.source.specs.Files.{in_file}
+use Rattle.book_source.specs.Files.{in_file}
 use Rattle.grammar.specs.Layout.{contents_of}
 use Rattle.book.specs.Parse.{filled}
-use Rattle.source.specs.Readings.{told}
+use Rattle.book_source.specs.Readings.{told}
 use Rattle.book.proofs.ReadFile.{read_refused, read_value, read_rows, read_index}
 use Rattle.book.proofs.reader.read.Goals as goal
 

@@ -1,6 +1,6 @@
 use Rattle.std.proofs.Common.{◌≡◌, Some, sym, ap, ◌∙◌, arith}
 use Rattle.bits.specs.Ink.{place}
-use Rattle.fields.specs.Fields.{layout}
+use Rattle.book_fields.specs.Fields.{layout}
 use Rattle.draft.proofs.Dues.{one_fits, one_long, one_wrote}
 use Rattle.draft.proofs.fields.put.Goals as goal
 

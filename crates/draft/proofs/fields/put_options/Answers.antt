@@ -1,6 +1,6 @@
 use Rattle.std.proofs.Common.{◌≡◌, ℕ, ◌+◌, ◌<◌, List, [], ◌∷◌, length, get_or, drop, refl, ◌∙◌, arith}
 use Rattle.std.proofs.lemmas.List.{at_drop_more, at_drop_all}
-use Rattle.fields.specs.declared.field.Field.{Field}
+use Rattle.book_fields.specs.declared.field.Field.{Field}
 use Rattle.draft.specs.Entries.{option_fields}
 use Rattle.draft.proofs.Dues.{due_ready, due_more, due_all}
 use Rattle.draft.proofs.fields.put_options.Goals as goal

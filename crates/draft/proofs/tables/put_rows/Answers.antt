@@ -1,6 +1,6 @@
 use Rattle.std.proofs.Common.{◌≡◌, ℕ, ◌+◌, ◌<◌, List, [], ◌++◌, map, length, get_or, take, drop, ap, ◌∙◌, add_assoc}
 use Rattle.std.proofs.lemmas.List.{at_drop_more, at_drop_all}
-use Rattle.fields.specs.declared.field.Field.{Field}
+use Rattle.book_fields.specs.declared.field.Field.{Field}
 use Rattle.draft.specs.Entries.{numbered, row_fields}
 use Rattle.draft.proofs.Dues.{due_ready, due_more, due_all}
 use Rattle.draft.proofs.tables.put_rows.Goals as goal

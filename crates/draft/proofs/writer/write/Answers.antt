@@ -2,7 +2,7 @@ use Rattle.std.proofs.Common.{◌≡◌, length, Ok, Err, sym, ap, ◌∙◌, ar
 use Rattle.std.proofs.lemmas.Result.{err_from_is_err_and}
 use Rattle.grammar.specs.Grammar.{book}
 use Rattle.grammar.specs.Layout.{contents_of}
-use Rattle.source.specs.Readings.{told}
+use Rattle.book_source.specs.Readings.{told}
 use Rattle.draft.specs.Drafts.{in_draft}
 use Rattle.draft.specs.Written.{counted, overwritten}
 use Rattle.draft.proofs.WriteDraft.{write_refused, letters_spelled, letters_short, parts_valid, parts_fit, write_value, write_reread}

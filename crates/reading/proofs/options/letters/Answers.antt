@@ -1,7 +1,7 @@
 use Rattle.std.proofs.Common.{◌<◌, length, sym, refl, ◌∙◌, arith}
 use Rattle.std.proofs.lemmas.Result.{err_from_is_err_and}
 use Rattle.std.proofs.lemmas.List.{take_more_set, take_all}
-use Rattle.source.proofs.Each.{sofar_none, sofar_more, sofar_stop, sofar_all}
+use Rattle.book_source.proofs.Each.{sofar_none, sofar_more, sofar_stop, sofar_all}
 use Rattle.reading.proofs.options.letters.Goals as goal
 
 pub loop-k-init : goal.loop-k-init

@@ -1,6 +1,6 @@
 use Rattle.std.proofs.Common.{◌+◌, ◌-◌, length, take}
 use Rattle.grammar.specs.Grammar.{letter, letters}
-use Rattle.source.proofs.Each.{Sofar}
+use Rattle.book_source.proofs.Each.{Sofar}
 use Rattle.reading.proofs.options.letters.Given as goal
 
 abbrev pub invariant-loop-k : goal.invariant-loop-k

@@ -2,8 +2,8 @@ use Rattle.std.proofs.Common.{◌≡◌, ◌<◌, map, length, take, Ok, sum, sy
 use Rattle.std.proofs.lemmas.Result.{err_from_is_err_and}
 use Rattle.std.proofs.lemmas.List.{take_more_set}
 use Rattle.std.proofs.lemmas.List.Sums.{sum_by_push}
-use Rattle.source.specs.Readings.{and_then}
-use Rattle.source.proofs.Each.{sofar_more, sofar_stop, sofar_all}
+use Rattle.book_source.specs.Readings.{and_then}
+use Rattle.book_source.proofs.Each.{sofar_more, sofar_stop, sofar_all}
 use Rattle.reading.proofs.Pairs.{pairs, pairs_push, firsts, seconds}
 use Rattle.reading.proofs.options.shapes.Goals as goal
 

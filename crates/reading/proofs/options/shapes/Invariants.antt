@@ -1,7 +1,7 @@
 use Rattle.std.proofs.Common.{◌≡◌, ◌+◌, ◌-◌, ◌*◌, ◌≤◌, take, sum}
-use Rattle.source.specs.Readings.{each}
+use Rattle.book_source.specs.Readings.{each}
 use Rattle.grammar.specs.Grammar.{shape}
-use Rattle.source.proofs.Each.{Sofar}
+use Rattle.book_source.proofs.Each.{Sofar}
 use Rattle.reading.proofs.Pairs.{pairs}
 use Rattle.reading.proofs.options.shapes.Given as goal
 
