@@ -5,7 +5,7 @@ ghost use Rattle.book_fields.specs.Fields.{asked, layout};
 use questions::Question;
 
 /// A field of a book file. Options, tables, rows and places are numbered from 0, rows and name bytes over the whole book.
-#[derive(Clone, Copy)]
+#[derive(Clone, Copy, Debug)]
 pub enum Field {
     /// The file, or the slice to be filled, as a whole.
     Whole,
@@ -81,7 +81,7 @@ impl Field {
 }
 
 /// What a refused reading tells: the question answered no, the bit at which its field begins, and which field that is.
-#[derive(Clone, Copy)]
+#[derive(Clone, Copy, Debug)]
 pub struct Fault {
     pub question: Question,
     pub bit: usize,

@@ -5,7 +5,7 @@ ghost use Rattle.std.specs.Prelude.{◌≡◌, take, drop};
 pub type Row = [u8; 4];
 
 /// A table: the first `arity` places of `scope` are its scope, and its rows are the `count` rows from place `start` on.
-#[derive(Clone, Copy)]
+#[derive(Clone, Copy, Debug)]
 pub struct TableIndex {
     pub scope: [u8; 4],
     pub arity: usize,
@@ -32,7 +32,7 @@ impl TableIndex {
 }
 
 /// The sizes and name lengths of a book's options, and its tables; how many name bytes and rows there are together.
-#[derive(Clone, Copy)]
+#[derive(Clone, Copy, Debug)]
 pub struct Index {
     pub options: usize,
     pub sizes: [u8; 24],

@@ -1,5 +1,5 @@
 -- The meaning of a store of type S as one value: what it holds, and the exact change that each of its calls makes.
--- In a clause of code over any `S: Store` this value is `S-as-Store`; in an answer of its proof, `g.S.Store`.
+-- In a clause of code over any `S: Store` this value is `S.Store`; in an answer of its proof, `g.S.Store`.
 use Rattle.boxes.specs.declared.ValueBox.{ValueBox}
 use Rattle.store.specs.declared.store.Store.{Ghosts}
 use Rattle.store.specs.Holdings.{Nothing, Same, Grown}
