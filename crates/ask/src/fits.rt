@@ -5,7 +5,6 @@ ghost use Rattle.trials.specs.Picks.{Single};
 ghost use Rattle.branching.specs.Looks.{AllOne};
 
 use book::Book;
-use propagate::sizes_of;
 use values::lowest;
 
 /// Writes the only value of each option into the first places.
@@ -15,8 +14,8 @@ pub fn write_fit(book: &Book, sets: &[u32; 24], fit: &mut [u8])
     ensures single { Single (contents book.now) sets.now (take (length (contents book.now).sizes) fit.new) }
     ensures rest { (k : ℕ) → length (contents book.now).sizes ≤ k → slice_index fit.new k ≡ slice_index fit.old k }
 {
-    let options = sizes_of(book).len();
-    for x in 0..options {
-        fit[x] = lowest(sets[x]);
+    let options = book.sizes().len();
+    for (x, set) in sets[..options].iter().enumerate() {
+        fit[x] = lowest(*set);
     }
 }

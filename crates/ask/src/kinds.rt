@@ -1,4 +1,13 @@
-// How an ask ends.
+// What an ask is lent, and how it ends.
+use trail::{Branch, Saved};
+
+/// The slices that a caller lends to an ask: two to work in, and one for the fit. What lies in the work slices counts for nothing.
+#[derive(Drop)]
+pub struct Work<'a> {
+    pub branches: &'a mut [Branch],
+    pub trail: &'a mut [Saved],
+    pub fit: &'a mut [u8],
+}
 
 /// The answer of an ask.
 #[derive(Clone, Copy)]

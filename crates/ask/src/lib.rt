@@ -4,7 +4,9 @@
 mod asking;
 mod fits;
 mod kinds;
+mod places;
 mod words;
 
 pub use asking::ask;
-pub use kinds::{Answer, Asked};
+pub use kinds::{Answer, Asked, Work};
+pub use places::places_of;

@@ -1,21 +1,39 @@
 // Asks on small books at random, each compared with what a look at every choice of values finds.
 use crate::random::random_sets;
 use ask::Answer;
-use book::{Book, Row};
+use book::Book;
 use forgetful::ForgetfulStore;
-use made_books::{Dice, Plan, Told, has_fit, is_fit, put_to};
+use made_books::{Dice, Plan, Told, has_fit, is_fit, put_to, untouched};
 use propagate::ValueSets;
 use store::{BlankStore, RingStore, Slot, SlotStore, Store};
 
-/// What came of the asks so far. Trials are counted for each store: blank, ring, slot and forgetful.
-#[derive(Drop)]
+/// Trials for each store.
+#[derive(Default, Drop)]
+pub struct Trials {
+    pub blank: usize,
+    pub ring: usize,
+    pub slots: usize,
+    pub forgetful: usize,
+}
+
+impl Trials {
+    fn add(&mut self, more: &Trials) {
+        self.blank = self.blank.wrapping_add(more.blank);
+        self.ring = self.ring.wrapping_add(more.ring);
+        self.slots = self.slots.wrapping_add(more.slots);
+        self.forgetful = self.forgetful.wrapping_add(more.forgetful);
+    }
+}
+
+/// What came of the asks so far.
+#[derive(Default, Drop)]
 pub struct Tally {
     pub asks: usize,
     pub fits: usize,
     pub nones: usize,
     pub stops: usize,
     pub differences: usize,
-    pub trials: [usize; 4],
+    pub trials: Trials,
 }
 
 /// What is known of an ask before it is made.
@@ -28,134 +46,119 @@ struct Known {
     most: u32,
 }
 
+/// One more.
+fn raise(count: &mut usize) {
+    *count = count.wrapping_add(1);
+}
+
 impl Tally {
-    pub fn new() -> Tally {
-        Tally {
-            asks: 0,
-            fits: 0,
-            nones: 0,
-            stops: 0,
-            differences: 0,
-            trials: [0; 4],
-        }
-    }
-
-    /// Counts an ask of a store, by the store's number.
-    fn note(&mut self, store: usize, told: &Told) {
-        let place = store % 4;
-        self.asks = self.asks.wrapping_add(1);
-        self.trials[place] = self.trials[place].wrapping_add(told.count as usize);
+    /// Counts an ask.
+    fn note(&mut self, told: &Told) {
+        raise(&mut self.asks);
         match told.answer {
-            Answer::Fit => self.fits = self.fits.wrapping_add(1),
-            Answer::None => self.nones = self.nones.wrapping_add(1),
-            Answer::Stopped => self.stops = self.stops.wrapping_add(1),
+            Answer::Fit => raise(&mut self.fits),
+            Answer::None => raise(&mut self.nones),
+            Answer::Stopped => raise(&mut self.stops),
         }
     }
 
-    fn differ(&mut self) {
-        self.differences = self.differences.wrapping_add(1);
+    pub fn differ(&mut self) {
+        raise(&mut self.differences);
     }
 }
 
-/// Whether the places that were told are a fit, and the places after it are untouched.
-fn fit_told(plan: &Plan, known: &Known, places: &[u8; 24]) -> bool {
-    let mut values = [0; 24];
-    for x in 0..24 {
-        if x < plan.options {
-            values[x] = places[x] as usize;
-        } else if places[x] != 255 {
+/// The stores with memory, which are kept over a series.
+#[derive(Drop)]
+struct Stores<'a> {
+    ring: RingStore,
+    slots: SlotStore<'a>,
+    forgetful: ForgetfulStore,
+}
+
+/// The asks on a book, beside its plan.
+#[derive(Drop)]
+pub struct Series<'a> {
+    pub book: &'a Book<'a>,
+    pub plan: &'a Plan,
+}
+
+impl Series<'_> {
+    /// Whether the places that were told are a fit, and the places behind it are untouched.
+    fn fit_told(&self, known: &Known, places: &[u8; 24]) -> bool {
+        is_fit(self.plan, &known.sets, places) && untouched(&places[self.plan.sizes.len()..])
+    }
+
+    /// Whether what was told is right.
+    fn agrees(&self, known: &Known, budget: u32, told: &Told) -> bool {
+        if told.count > known.most || told.count > budget {
             return false;
         }
-    }
-    is_fit(plan, &known.sets, &values)
-}
-
-/// Whether nothing was told as a fit.
-fn untouched(places: &[u8; 24]) -> bool {
-    for place in places {
-        if *place != 255 {
-            return false;
+        match told.answer {
+            Answer::Fit => known.fit && self.fit_told(known, &told.fit),
+            Answer::None => !known.fit && untouched(&told.fit),
+            Answer::Stopped => budget < known.most && told.count == budget && untouched(&told.fit),
         }
     }
-    true
-}
 
-/// Whether what was told is right.
-fn agrees(plan: &Plan, known: &Known, budget: u32, told: &Told) -> bool {
-    if told.count > known.most || told.count > budget {
-        return false;
-    }
-    match told.answer {
-        Answer::Fit => known.fit && fit_told(plan, known, &told.fit),
-        Answer::None => !known.fit && untouched(&told.fit),
-        Answer::Stopped => budget < known.most && told.count == budget && untouched(&told.fit),
-    }
-}
-
-/// One ask of one store, by its number, compared.
-fn compare<S: Store>(
-    book: &Book,
-    plan: &Plan,
-    known: &Known,
-    budget: u32,
-    store: &mut S,
-    number: usize,
-    tally: &mut Tally,
-) {
-    let Some(told) = put_to(book, &known.sets, store, budget) else {
-        tally.differ();
-        return;
-    };
-    tally.note(number, &told);
-    if !agrees(plan, known, budget, &told) {
-        tally.differ();
-    }
-}
-
-/// Some starting sets, with what is known of them.
-fn next_known(book: &Book, plan: &Plan, dice: &mut Dice) -> Option<Known> {
-    let sets = random_sets(dice);
-    let Some(told) = put_to(book, &sets, &mut BlankStore, 1000000) else {
-        return None;
-    };
-    Some(Known {
-        sets,
-        fit: has_fit(plan, &sets),
-        most: told.count,
-    })
-}
-
-/// Four starting sets on a book, each asked for with a large budget and with a small one; each store is kept over all of them.
-fn series(book: &Book, plan: &Plan, dice: &mut Dice, tally: &mut Tally) {
-    let mut ring = RingStore::new();
-    let mut slots: [Slot; 4] = [None; 4];
-    let mut slot = SlotStore::over(&mut slots);
-    let mut forgetful = ForgetfulStore::new();
-    for _ in 0..4 {
-        let Some(known) = next_known(book, plan, dice) else {
+    /// One ask of one store, compared: how many trials it took.
+    fn compare<S: Store>(
+        &self,
+        known: &Known,
+        budget: u32,
+        store: &mut S,
+        tally: &mut Tally,
+    ) -> usize {
+        let Some(told) = put_to(self.book, &known.sets, store, budget) else {
             tally.differ();
-            return;
+            return 0;
         };
-        let small = (dice.below((known.most as usize).wrapping_add(2)) % 1000000) as u32;
-        for budget in [1000000, small] {
-            compare(book, plan, &known, budget, &mut BlankStore, 0, tally);
-            compare(book, plan, &known, budget, &mut ring, 1, tally);
-            compare(book, plan, &known, budget, &mut slot, 2, tally);
-            compare(book, plan, &known, budget, &mut forgetful, 3, tally);
+        tally.note(&told);
+        if !self.agrees(known, budget, &told) {
+            tally.differ();
         }
+        told.count as usize
     }
-}
 
-/// The asks on the book that a file holds.
-pub fn examine<'a>(
-    file: &'a [u8],
-    rows: &'a mut [Row],
-    plan: &Plan,
-    dice: &mut Dice,
-    tally: &mut Tally,
-) {
-    match book::read(file, rows) {
-        Ok(index) => series(&Book::open(file, rows, index), plan, dice, tally),
-        Err(_) => tally.differ(),
+    /// An ask of each store, compared.
+    fn compare_all(&self, known: &Known, budget: u32, stores: &mut Stores, tally: &mut Tally) {
+        let blank = self.compare(known, budget, &mut BlankStore, tally);
+        let ring = self.compare(known, budget, &mut stores.ring, tally);
+        let slots = self.compare(known, budget, &mut stores.slots, tally);
+        let forgetful = self.compare(known, budget, &mut stores.forgetful, tally);
+        tally.trials.add(&Trials {
+            blank,
+            ring,
+            slots,
+            forgetful,
+        });
+    }
+
+    /// Some starting sets, with what is known of them.
+    fn next_known(&self, dice: &mut Dice) -> Option<Known> {
+        let sets = random_sets(dice);
+        let told = put_to(self.book, &sets, &mut BlankStore, 1000000)?;
+        Some(Known {
+            sets,
+            fit: has_fit(self.plan, &sets),
+            most: told.count,
+        })
+    }
+
+    /// Four starting sets, each asked for with a large budget and with a small one; each store is kept over all of them.
+    pub fn run(&self, dice: &mut Dice, tally: &mut Tally) {
+        let mut slots: [Slot; 4] = [None; 4];
+        let mut stores = Stores {
+            ring: RingStore::new(),
+            slots: SlotStore::over(&mut slots),
+            forgetful: ForgetfulStore::new(),
+        };
+        for _ in 0..4 {
+            let Some(known) = self.next_known(dice) else {
+                return tally.differ();
+            };
+            let small = (dice.below((known.most as usize).wrapping_add(2)) % 1000000) as u32;
+            self.compare_all(&known, 1000000, &mut stores, tally);
+            self.compare_all(&known, small, &mut stores, tally);
+        }
     }
 }

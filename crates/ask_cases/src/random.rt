@@ -6,9 +6,9 @@ use propagate::ValueSets;
 pub fn random_sets(dice: &mut Dice) -> ValueSets {
     let mut sets = [u32::MAX; 24];
     if dice.below(4) > 0 {
-        for x in 0..24 {
+        for set in sets.iter_mut() {
             let some = (dice.below(8) | dice.below(8)) % 8;
-            sets[x] = 0xffff_fff0 | some as u32;
+            *set = 0xffff_fff0 | some as u32;
         }
     }
     ValueSets { sets }

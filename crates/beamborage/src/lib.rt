@@ -14,8 +14,8 @@ pub use draft::{Draft, write, write_book};
 pub use boxes::ValueBox;
 pub use store::{BlankStore, RingStore, Slot, SlotStore, Store};
 
-// The sheet of two people: deciding, asking and issuing. `Branch` and `Saved` are what the work slices of an ask hold.
-pub use ask::{Answer, Asked};
+// The sheet of two people: deciding, asking and issuing. `Work` has the slices that are lent to an ask.
+pub use ask::{Answer, Asked, Work};
 pub use order::{Order, issuable, issue};
 pub use shared::{ask_on, open_on};
 pub use sheet::Sheet;

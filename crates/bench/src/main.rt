@@ -5,90 +5,74 @@
 mod shapes;
 
 use crate::shapes::{crowded, even_pairs, parities};
-use ask::Answer;
 use book::{Book, Row};
-use made_books::{Plan, Rule, build, pigeons, put_to};
+use made_books::{Plan, Rule, build, pigeons, put_to, show_book};
 use propagate::{Outcome, ValueSets, propagate};
 use std::io;
 use std::time::Instant;
 use store::{BlankStore, RingStore, Slot, SlotStore, Store};
-
-fn word(answer: Answer) -> &'static str {
-    match answer {
-        Answer::Fit => "fit",
-        Answer::None => "none",
-        Answer::Stopped => "stopped",
-    }
-}
 
 /// All values of all options.
 const ALL: ValueSets = ValueSets {
     sets: [u32::MAX; 24],
 };
 
-/// One ask for a fit anywhere; beside its trials, their share of those without memory, where these are known.
-fn measure<S: Store>(
-    rt: &HostRuntime,
-    book: &Book,
-    what: &str,
-    store: &mut S,
+/// Asks on a book, each with the same budget.
+#[derive(Drop)]
+struct Bench<'a> {
+    rt: &'a HostRuntime,
+    book: &'a Book<'a>,
     budget: u32,
-    plain: u32,
-) -> io::Result<u32> {
-    let start = Instant::now(rt)?;
-    let Some(told) = put_to(book, &ALL, store, budget) else {
-        println!(rt; "  {what}: NOT ASKED")?;
-        return Ok(0);
-    };
-    let rate = told.count as f64 / start.elapsed(rt)?.as_secs_f64();
-    let answer = word(told.answer);
-    let count = told.count;
-    print!(rt; "  {what}: {answer} in {count}")?;
-    if plain > 0 {
-        let share = count as u64 * 100 / plain as u64;
-        print!(rt; ", {share} in 100 of those without memory")?;
+}
+
+impl Bench<'_> {
+    /// One ask for a fit anywhere; beside its trials, their share of those without memory, where these are known.
+    fn measure<S: Store>(&self, what: &str, store: &mut S, plain: Option<u32>) -> io::Result<u32> {
+        let rt = self.rt;
+        let start = Instant::now(rt)?;
+        let Some(told) = put_to(self.book, &ALL, store, self.budget) else {
+            println!(rt; "  {what}: NOT ASKED")?;
+            return Ok(0);
+        };
+        let rate = told.count as f64 / start.elapsed(rt)?.as_secs_f64();
+        print!(rt; "  {what}: {told}")?;
+        if let Some(plain) = plain
+            && plain > 0
+        {
+            let share = told.count as u64 * 100 / plain as u64;
+            print!(rt; ", {share} in 100 of those without memory")?;
+        }
+        println!(rt; "")?;
+        eprintln!(rt; "  {what}: {rate:.0} trials a second")?;
+        Ok(told.count)
     }
-    println!(rt; "")?;
-    eprintln!(rt; "  {what}: {rate:.0} trials a second")?;
-    Ok(count)
+
+    /// An ask with each store.
+    fn measure_stores(&self) -> io::Result<()> {
+        let plain = self.measure("blank", &mut BlankStore, None)?;
+        let plain = Some(plain).filter(|count| *count < self.budget);
+        self.measure("ring", &mut RingStore::new(), plain)?;
+        let mut slots: [Slot; 512] = [None; 512];
+        self.measure("512 slots", &mut SlotStore::over(&mut slots), plain)?;
+        Ok(())
+    }
 }
 
-/// The book that a file holds, with each store.
-fn measure_file<'a>(
-    rt: &HostRuntime,
-    file: &'a [u8],
-    rows: &'a mut [Row],
-    budget: u32,
-) -> io::Result<()> {
-    let Ok(index) = book::read(file, rows) else {
-        return println!(rt; "  REFUSED");
-    };
-    let book = Book::open(file, rows, index);
-    let mut slots: [Slot; 512] = [None; 512];
-    let plain = measure(rt, &book, "blank", &mut BlankStore, budget, 0)?;
-    let plain = if plain < budget { plain } else { 0 };
-    measure(rt, &book, "ring", &mut RingStore::new(), budget, plain)?;
-    let mut slot = SlotStore::over(&mut slots);
-    measure(rt, &book, "512 slots", &mut slot, budget, plain)?;
-    Ok(())
-}
-
+/// Asks on the book of a plan, with each store.
 fn measure_plan(rt: &HostRuntime, rows: &mut [Row], plan: &Plan, budget: u32) -> io::Result<()> {
     let file = build(rt.alloc(), plan)?;
-    measure_file(rt, &file, rows, budget)
+    show_book(rt, &file, rows, |book| {
+        Bench { rt, book, budget }.measure_stores()
+    })
 }
 
 /// A hundred propagations of all values of a book: what one row costs.
-fn measure_rows<'a>(rt: &HostRuntime, file: &'a [u8], rows: &'a mut [Row]) -> io::Result<()> {
-    let Ok(index) = book::read(file, rows) else {
-        return println!(rt; "  REFUSED");
-    };
-    let book = Book::open(file, rows, index);
+fn measure_rows(rt: &HostRuntime, book: &Book) -> io::Result<()> {
     let start = Instant::now(rt)?;
     let mut narrowed = 0u32;
     for _ in 0..100 {
         let mut sets = ALL;
-        if let Outcome::Narrowed = propagate(&book, &mut sets) {
+        if let Outcome::Narrowed = propagate(book, &mut sets) {
             narrowed = narrowed.wrapping_add(1);
         }
     }
@@ -102,7 +86,7 @@ fn main(rt: HostRuntime) -> io::Result<()> {
     println!(rt; "8192 rows in 16 tables")?;
     let plan = even_pairs(rt.alloc())?;
     let file = build(rt.alloc(), &plan)?;
-    measure_rows(&rt, &file, &mut rows)?;
+    show_book(&rt, &file, &mut rows, |book| measure_rows(&rt, book))?;
     for n in 8usize..11 {
         println!(rt; "{n} options with a value too few, all different")?;
         let plan = pigeons(rt.alloc(), n, Rule::Different)?;

@@ -1,24 +1,17 @@
 // Plans that take many trials.
-use made_books::{Dice, Plan, Rule, Table, pair, three};
+use made_books::{Dice, Plan, Rule, Table};
 use std::alloc::{AllocError, Global};
 
 /// Adds up the first eight options in this order, in seven options from `first` on, the last of which is to be even or odd.
 fn add_up(plan: &mut Plan, order: &[usize; 8], first: usize, end: Rule) -> Result<(), AllocError> {
-    plan.add(three(order[0], order[1], first, Rule::Even))?;
-    for i in 2..8usize {
-        let sum = first.wrapping_add(i);
-        plan.add(three(
-            order[i],
-            sum.wrapping_sub(2),
-            sum.wrapping_sub(1),
-            Rule::Even,
-        ))?;
+    plan.add(Table::on(&[order[0], order[1], first], Rule::Even))?;
+    let mut sum = first;
+    for option in order.iter().skip(2) {
+        let next = sum.wrapping_add(1);
+        plan.add(Table::on(&[*option, sum, next], Rule::Even))?;
+        sum = next;
     }
-    plan.add(Table {
-        scope: [first.wrapping_add(6), 0, 0],
-        arity: 1,
-        rule: end,
-    })
+    plan.add(Table::on(&[sum], end))
 }
 
 /// Eight options of two values, added up in two orders: one sum is to be even and the other odd, so there is no fit.
@@ -44,7 +37,7 @@ pub fn crowded(heap: Global, seed: usize) -> Result<Plan, AllocError> {
             .wrapping_add(second)
             .wrapping_add(1);
         let rows = dice.word();
-        plan.add(three(first, second, third, Rule::Rows(rows)))?;
+        plan.add(Table::on(&[first, second, third], Rule::Rows(rows)))?;
     }
     Ok(plan)
 }
@@ -53,7 +46,7 @@ pub fn crowded(heap: Global, seed: usize) -> Result<Plan, AllocError> {
 pub fn even_pairs(heap: Global) -> Result<Plan, AllocError> {
     let mut plan = Plan::new(heap, 24, 32);
     for i in 0..16usize {
-        plan.add(pair(i, i + 1, Rule::Even))?;
+        plan.add(Table::on(&[i, i + 1], Rule::Even))?;
     }
     Ok(plan)
 }

@@ -2,3 +2,4 @@ pub mod FileNames
 pub mod ReadFile
 pub mod ValidFiles
 pub mod Names
+pub mod Sizes

@@ -4,7 +4,7 @@ ghost use Rattle.std.specs.Result.{result_map_both};
 ghost use Rattle.book.specs.Parse.{Read, filled, indexed, parse};
 
 use bits::Cursor;
-use book_fields::{Fault, Field};
+use book_fields::Fault;
 use grammar::{Index, Row};
 use questions::Question;
 use reading::read_from;
@@ -16,11 +16,7 @@ pub fn read(file: &[u8], rows: &mut [Row]) -> Result<Index, Fault>
     ensures index { IfOk result (Read file.now rows.new) }
 {
     if file.len() > 32768 {
-        return Err(Fault {
-            question: Question::FileLength,
-            bit: 0,
-            field: Field::Whole,
-        });
+        return Err(Fault::whole(Question::FileLength));
     }
     let mut out = [[0; 4]; 8192];
     let mut names = [0; 384];
@@ -28,11 +24,7 @@ pub fn read(file: &[u8], rows: &mut [Row]) -> Result<Index, Fault>
     let index = read_from(&mut cursor, &mut out, &mut names)?;
     let count = index.rows;
     if rows.len() < count {
-        return Err(Fault {
-            question: Question::Room,
-            bit: 0,
-            field: Field::Whole,
-        });
+        return Err(Fault::whole(Question::Room));
     }
     rows[0..count].copy_from_slice(&out[0..count]);
     Ok(index)

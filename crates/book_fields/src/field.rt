@@ -1,6 +1,7 @@
 // A field, and the refusal of one.
 ghost use Rattle.std.specs.Prelude.{◌≡◌, ◌≤◌, IfSome};
 ghost use Rattle.book_fields.specs.Fields.{asked, layout};
+ghost use Rattle.book_fields.specs.declared.field.Field.{Field};
 
 use questions::Question;
 
@@ -86,4 +87,17 @@ pub struct Fault {
     pub question: Question,
     pub bit: usize,
     pub field: Field,
+}
+
+impl Fault {
+    /// The refusal of a file, or of a slice to be filled, as a whole.
+    pub fn whole(question: Question) -> Fault
+        ensures { result ≡ record { question = question; bit = 0; field = Field.Whole } }
+    {
+        Fault {
+            question,
+            bit: 0,
+            field: Field::Whole,
+        }
+    }
 }

@@ -1,25 +1,20 @@
 -- Rows compared value by value.
-use Rattle.std.proofs.Common.{◌≡◌, ℕ, ◌+◌, ◌<◌, ◌≤◌, Bool, false, cond, eqb, ltb, ◌≢◌, List, ◌∷◌, length, get_or, take, drop, sym, ap, ◌∙◌, arith, length-take, get_or-take, eq-eqb, ne_eqb}
-use Rattle.std.proofs.lemmas.List.{at_drop_more, at_drop_all}
+use Rattle.std.proofs.Common.{◌≡◌, ℕ, cond, eqb, ltb, Bool, true, false, List, [], ◌∷◌, length, Some, Option, refl, arith, ltb-true, eqb-true}
+use Rattle.std.specs.declared.cmp.Ordering.{Ordering}
+use Rattle.std.specs.declared.cmp.Ordering.TheVariants.{Less, Equal, Greater}
+use Rattle.std.specs.Ordering.{is_lt, is_some_and, nat_cmp, partial_ordering_then}
+use Rattle.std.specs.Cmp.Lexicographic.{slice_partial_cmp}
 use Rattle.grammar.specs.Grammar.{before}
 
--- one turn of the comparison of the first n places of two rows, of which the first j are the same
-module _ (xs ys : List ℕ) (n j : ℕ) (all : Bool) (so : before (drop j (take n xs)) (drop j (take n ys)) ≡ all) where
-  step : j < n → n ≤ length xs → n ≤ length ys → cond (eqb (get_or xs j 0) (get_or ys j 0)) (before (drop (j + 1) (take n xs)) (drop (j + 1) (take n ys))) (ltb (get_or xs j 0) (get_or ys j 0)) ≡ all
-  step lt h k =
-      let x : get_or (take n xs) j 0 ≡ get_or xs j 0 = get_or-take n xs j 0 lt in
-      let y : get_or (take n ys) j 0 ≡ get_or ys j 0 = get_or-take n ys j 0 lt in
-      let rest = before (drop (j + 1) (take n xs)) (drop (j + 1) (take n ys)) in
-      (λ t. cond (eqb (sym x t) (sym y t)) rest (ltb (sym x t) (sym y t)))
-      ∙ sym (at_drop_more (λ l. before (get_or (take n xs) j 0 ∷ drop (j + 1) (take n xs)) l) (take n ys) j 0 (simp length-take (omega arith)))
-      ∙ sym (at_drop_more (λ l. before l (drop j (take n ys))) (take n xs) j 0 (simp length-take (omega arith)))
-      ∙ so
+turn : (less same : Bool) (r : Option Ordering) (t : Bool) → is_some_and is_lt r ≡ t → ((less ≡ true) × (same ≡ true) → ⊥) → is_some_and is_lt (partial_ordering_then (Some (cond less Less (cond same Equal Greater))) r) ≡ cond same t less
+turn true true r t h apart = absurd (apart (refl, refl))
+turn true false r t h apart = refl
+turn false true r t h apart = h
+turn false false r t h apart = refl
 
-  pub before_more : j < n → n ≤ length xs → n ≤ length ys → get_or xs j 0 ≡ get_or ys j 0 → before (drop (j + 1) (take n xs)) (drop (j + 1) (take n ys)) ≡ all
-  before_more lt h k e = sym (ap (λ b. cond b (before (drop (j + 1) (take n xs)) (drop (j + 1) (take n ys))) (ltb (get_or xs j 0) (get_or ys j 0))) (eq-eqb _ _ e)) ∙ step lt h k
-
-  pub before_stop : j < n → n ≤ length xs → n ≤ length ys → get_or xs j 0 ≢ get_or ys j 0 → ltb (get_or xs j 0) (get_or ys j 0) ≡ all
-  before_stop lt h k e = sym (ap (λ b. cond b (before (drop (j + 1) (take n xs)) (drop (j + 1) (take n ys))) (ltb (get_or xs j 0) (get_or ys j 0))) (ne_eqb _ _ e)) ∙ step lt h k
-
-  pub before_all : n ≤ j → false ≡ all
-  before_all ge = sym (at_drop_all (λ l. before l (drop j (take n ys))) (take n xs) j (simp length-take (omega arith))) ∙ so
+-- of rows of one length the library's order is that of the book
+pub before_is : (xs ys : List ℕ) → length xs ≡ length ys → is_some_and is_lt (slice_partial_cmp (λ x y. Some (nat_cmp x y)) xs ys) ≡ before xs ys
+before_is [] [] e = refl
+before_is [] (y ∷ ys) e = absurd (omega arith)
+before_is (x ∷ xs) [] e = absurd (omega arith)
+before_is (x ∷ xs) (y ∷ ys) e = turn (ltb x y) (eqb x y) _ _ (before_is xs ys (omega arith)) (λ p. let l = p.0 in let s = p.1 in let h = ltb-true x y l in let k = eqb-true x y s in absurd (omega arith))

@@ -13,29 +13,6 @@ use book_source::{Source, within};
 use grammar::{Row, TableIndex};
 use questions::Question;
 
-/// The values of a row, each below its option's size; places beyond the scope are 0.
-fn values<S: Source>(
-    source: &mut S,
-    table: usize,
-    row: usize,
-    scope: &[u8],
-    sizes: &[u8],
-) -> Result<Row, Fault>
-    requires few { length scope.now ≤ 4 }
-    requires known { (j : ℕ) → j < length scope.now → slice_index scope.now j < length sizes.now }
-    ensures value { told (take (length scope.now)) result (S.place source.new) ≡ values (S.gives source.old) table row sizes.now scope.now (S.place source.old) }
-    ensures same { S.gives source.new ≡ S.gives source.old }
-    ensures rest { IfOk result (λ vs. Padded (length scope.now) vs) }
-{
-    let mut read = [0; 4];
-    for j in 0..scope.len() {
-        let size = sizes[scope[j] as usize];
-        let value = within(source, Field::Value(table, row, j), 0, size as usize)?;
-        read[j] = value as u8;
-    }
-    Ok(read)
-}
-
 /// The scope of a table: `count` options of the book, in rising order.
 fn scope<S: Source>(
     source: &mut S,
@@ -51,9 +28,9 @@ fn scope<S: Source>(
 {
     let mut read = [0; 4];
     let mut low = 0;
-    for j in 0..count {
+    for (j, place) in read[..count].iter_mut().enumerate() {
         let option = within(source, Field::ScopeOption(table, j), low, options)?;
-        read[j] = option as u8;
+        *place = option as u8;
         low = option + 1;
     }
     Ok(read)
@@ -64,66 +41,70 @@ fn before(first: &Row, second: &Row, count: usize) -> bool
     requires { count ≤ 4 }
     ensures { result ≡ before (take count first.now) (take count second.now) }
 {
-    for j in 0..count {
-        if first[j] != second[j] {
-            return first[j] < second[j];
-        }
-    }
-    false
+    first[..count] < second[..count]
 }
 
-/// A row of a table, which rises above the last one before it.
-fn row<S: Source>(
-    source: &mut S,
+/// Reads the rows of a table: its number, its scope, and the sizes of the book's options.
+#[derive(Drop)]
+struct RowReader<'a> {
     table: usize,
-    row: usize,
-    scope: &[u8],
-    sizes: &[u8],
-    last: Option<Row>,
-) -> Result<Row, Fault>
-    requires few { length scope.now ≤ 4 }
-    requires known { (j : ℕ) → j < length scope.now → slice_index scope.now j < length sizes.now }
-    ensures value { told (take (length scope.now)) result (S.place source.new) ≡ rowRead (S.gives source.old) table sizes.now scope.now (row, option_map (take (length scope.now)) last) (S.place source.old) }
-    ensures same { S.gives source.new ≡ S.gives source.old }
-    ensures rest { IfOk result (λ vs. Padded (length scope.now) vs) }
-{
-    let bit = source.at();
-    let read = values(source, table, row, scope, sizes)?;
-    if let Some(last) = last {
-        if !before(&last, &read, scope.len()) {
-            return Err(Fault {
-                question: Question::RowValue,
-                bit,
-                field: Field::Row(table, row),
-            });
-        }
-    }
-    Ok(read)
+    scope: &'a [u8],
+    sizes: &'a [u8],
+    ghost few: { length scope.now ≤ 4 },
+    ghost known: { (j : ℕ) → j < length scope.now → slice_index scope.now j < length sizes.now },
 }
 
-/// As many rows of a table as `out` has places, the first of which is the row `first` of the book.
-fn rows<S: Source>(
-    source: &mut S,
-    table: usize,
-    first: usize,
-    scope: &[u8],
-    sizes: &[u8],
-    out: &mut [Row],
-) -> Result<usize, Fault>
-    requires few { length scope.now ≤ 4 }
-    requires known { (j : ℕ) → j < length scope.now → slice_index scope.now j < length sizes.now }
-    requires small { first + length out.old ≤ 8192 }
-    ensures value { told (λ _. map (take (length scope.now)) out.new) result (S.place source.new) ≡ rows (S.gives source.old) table first sizes.now scope.now (length out.old) (S.place source.old) }
-    ensures same { S.gives source.new ≡ S.gives source.old }
-    ensures rest { OnOk result (AllByRecursion (Padded (length scope.now)) out.new) }
-{
-    let mut last = None;
-    for i in 0..out.len() {
-        let read = row(source, table, first + i, scope, sizes, last)?;
-        out[i] = read;
-        last = Some(read);
+impl<'a> RowReader<'a> {
+    /// The values of a row, each below its option's size; places beyond the scope are 0.
+    fn values<S: Source>(&self, source: &mut S, row: usize) -> Result<Row, Fault>
+        ensures value { told (take (length self.now.scope.now)) result (S.place source.new) ≡ values (S.gives source.old) self.now.table row self.now.sizes.now self.now.scope.now (S.place source.old) }
+        ensures same { S.gives source.new ≡ S.gives source.old }
+        ensures rest { IfOk result (λ vs. Padded (length self.now.scope.now) vs) }
+    {
+        let mut read = [0; 4];
+        for (j, option) in self.scope.iter().enumerate() {
+            let size = self.sizes[*option as usize];
+            let value = within(source, Field::Value(self.table, row, j), 0, size as usize)?;
+            read[j] = value as u8;
+        }
+        Ok(read)
     }
-    Ok(out.len())
+
+    /// A row, which rises above the last one before it.
+    fn row<S: Source>(&self, source: &mut S, row: usize, last: Option<Row>) -> Result<Row, Fault>
+        ensures value { told (take (length self.now.scope.now)) result (S.place source.new) ≡ rowRead (S.gives source.old) self.now.table self.now.sizes.now self.now.scope.now (row, option_map (take (length self.now.scope.now)) last) (S.place source.old) }
+        ensures same { S.gives source.new ≡ S.gives source.old }
+        ensures rest { IfOk result (λ vs. Padded (length self.now.scope.now) vs) }
+    {
+        let bit = source.at();
+        let read = self.values(source, row)?;
+        if let Some(last) = last {
+            if !before(&last, &read, self.scope.len()) {
+                return Err(Fault {
+                    question: Question::RowValue,
+                    bit,
+                    field: Field::Row(self.table, row),
+                });
+            }
+        }
+        Ok(read)
+    }
+
+    /// As many rows as `out` has places, the first of which is the row `first` of the book.
+    fn rows<S: Source>(&self, source: &mut S, first: usize, out: &mut [Row]) -> Result<usize, Fault>
+        requires small { first + length out.old ≤ 8192 }
+        ensures value { told (λ _. map (take (length self.now.scope.now)) out.new) result (S.place source.new) ≡ rows (S.gives source.old) self.now.table first self.now.sizes.now self.now.scope.now (length out.old) (S.place source.old) }
+        ensures same { S.gives source.new ≡ S.gives source.old }
+        ensures rest { OnOk result (AllByRecursion (Padded (length self.now.scope.now)) out.new) }
+    {
+        let mut last = None;
+        for (i, place) in out.iter_mut().enumerate() {
+            let read = self.row(source, first + i, last)?;
+            *place = read;
+            last = Some(read);
+        }
+        Ok(out.len())
+    }
 }
 
 /// How many rows a table may have when those before it have `first`.
@@ -177,16 +158,13 @@ fn table<S: Source>(
     ensures grown { IfOk result (λ t. take (first + t.count) out.new ≡ take first out.old ++ laid (table_of out.new t)) }
 {
     let read = heading(source, sizes.len(), number, first)?;
-    let arity = read.arity;
     let end = first + read.count;
-    rows(
-        source,
-        number,
-        first,
-        &read.scope[0..arity],
+    let reader = RowReader {
+        table: number,
+        scope: read.own_scope(),
         sizes,
-        &mut out[first..end],
-    )?;
+    };
+    reader.rows(source, first, &mut out[first..end])?;
     Ok(read)
 }
 
@@ -206,9 +184,9 @@ pub fn tables<S: Source>(
     ensures laid { IfOk result (λ n. Laid (take count read.new) out.new n) }
 {
     let mut first = 0;
-    for t in 0..count {
+    for (t, place) in read[..count].iter_mut().enumerate() {
         let next = table(source, t, first, sizes, out)?;
-        read[t] = next;
+        *place = next;
         first += next.count;
     }
     Ok(first)

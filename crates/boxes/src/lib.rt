@@ -10,7 +10,7 @@ ghost use Rattle.std.specs.Cmp as Keys;
 
 /// A box records, for some options, a set of values, in which value v is worth 2 to the power v.
 /// The empty set marks an option that is left out, and one that the book lacks.
-#[derive(Clone, Copy, Debug)]
+#[derive(Clone, Copy, Default, Debug)]
 pub struct ValueBox {
     pub sets: [u32; 24],
 }
@@ -23,6 +23,7 @@ fn same_sets(one: &[u32; 24], other: &[u32; 24]) -> bool
 }
 
 /// Two boxes are equal when they have the same set at each of the 24 options.
+// Written by hand: a derive's `eq` lacks the clause `decides`, on which every store leans.
 impl PartialEq for ValueBox {
     ghost eq = { on (λ x. x.sets) (pointwise ◌==◌) };
 

@@ -7,9 +7,8 @@ use Rattle.book.specs.declared.book.Book.{Book}
 use Rattle.values.specs.Members.{In}
 use Rattle.values.proofs.Digits.{in_mod, in_lt}
 use Rattle.propagate.specs.Propagation.{Propagated}
-use Rattle.propagate.proofs.Books.{valid}
+use Rattle.book.proofs.Sizes.{valid}
 use Rattle.trials.specs.Picks.{Picked}
-use Rattle.trials.specs.Trials.{cut_to}
 use Rattle.trail.specs.declared.kinds.Branch.{Branch}
 use Rattle.trail.specs.declared.kinds.Saved.{Saved}
 use Rattle.trail.specs.declared.kinds.Side.TheVariants.{Left}
@@ -51,14 +50,14 @@ module _ (b : Book) (n : ℕ) (e : n ≡ length (contents b).sizes) (start next 
       let r = room_for (contents b) few d (2 ^ v) x xs us refl within less pick_there same.paired.spare in
       (r, omega (arith, r, nested_length (contents b) xs us d same.paired.nested))
 
-  module _ (ys : List Branch) (ws : List Saved) (a : List ℕ) (g : ys ≡ branch o v Left (length us) ∷ xs) (h : ws ≡ saved d o ∷ us) (k : a ≡ set d o (2 ^ v)) where
-    pub descent_sets : a ≡ cut_to next o v
-    descent_sets = k ∙ ap (λ z. set z o (2 ^ v)) f
+  module _ (zs ys : List Branch) (ws : List Saved) (a : List ℕ) (j : zs ≡ xs) (g : ys ≡ branch o v Left (length us) ∷ zs) (h : ws ≡ saved d o ∷ us) (k : a ≡ set d o (2 ^ v)) where
+    opens : ys ≡ branch o v Left (length us) ∷ xs
+    opens = g ∙ ap (λ bs. branch o v Left (length us) ∷ bs) j
 
     pub descent_frames : frames ys ws a ≡ on_left next o v ∷ frames xs ts start
     descent_frames =
-        opened_as (contents b) few d (2 ^ v) (branch o v Left (length us)) xs us refl ys ws a g h k
+        opened_as (contents b) few d (2 ^ v) (branch o v Left (length us)) xs us refl ys ws a opens h k
         ∙ ap₂ (λ (z : List ℕ) (fs : List Frame). on_left z o v ∷ fs) f same.frames
 
     pub descent_paired : Paired (contents b) ys ws a
-    descent_paired = paired_as (contents b) few d (2 ^ v) (branch o v Left (length us)) xs us refl ys ws a g h k within less pick_there same.paired
+    descent_paired = paired_as (contents b) few d (2 ^ v) (branch o v Left (length us)) xs us refl ys ws a opens h k within less pick_there same.paired

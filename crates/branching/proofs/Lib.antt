@@ -3,3 +3,4 @@ pub mod Smalls
 pub mod Opened
 pub mod Rises
 pub mod Descents
+pub mod Roomy

@@ -5,7 +5,7 @@ use Rattle.book.specs.Books.{contents}
 use Rattle.book.specs.declared.book.Book.{Book}
 use Rattle.propagate.specs.Sets.{sets_of}
 use Rattle.propagate.specs.Propagation.{Propagated}
-use Rattle.propagate.proofs.Books.{valid, size_most}
+use Rattle.book.proofs.Sizes.{valid, size_most}
 
 pub small_set : (b : Book) (array : List ℕ) (x : ℕ) → x < length (contents b).sizes → sets_of (contents b) array x < 2 ^ 32
 small_set b array x l =

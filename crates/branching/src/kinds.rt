@@ -9,5 +9,9 @@ pub enum Look {
     /// Each option has one value in these sets.
     Settled(ValueSets),
     /// It branches, with these sets, on this option and value.
-    Open(ValueSets, usize, u8),
+    Open {
+        next: ValueSets,
+        option: usize,
+        value: u8,
+    },
 }

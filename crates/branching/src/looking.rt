@@ -14,6 +14,7 @@ use reduce::box_of;
 use store::Store;
 
 /// Propagates an array of sets in its place.
+// An array by itself keeps its length over a call; one in a struct that goes through a `&mut` does not.
 fn propagate_array(book: &Book, array: &mut [u32; 24]) -> Outcome
     ensures { Ends (contents book.now) array.old result array.new }
 {
@@ -55,7 +56,11 @@ pub fn look<S: Store>(book: &Book, sets: &[u32; 24], store: &mut S) -> Look
     if seek(book, &next, store) {
         return Look::Refuted;
     }
-    Look::Open(next, option, value)
+    Look::Open {
+        next,
+        option,
+        value,
+    }
 }
 
 /// Tells the store the box of the sets.

@@ -1,5 +1,4 @@
-pub mod Passing
-pub mod Bridge
+pub mod Numbers
 pub mod Opening
 pub mod Spacing
 pub mod Sayings

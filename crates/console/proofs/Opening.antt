@@ -2,8 +2,7 @@
 use Rattle.std.proofs.Common.{◌≡◌, ℕ, ◌-◌, ◌<◌, ◌≤◌, Bool, true, false, cond, eqb, leb, List, [], ◌∷◌, length, get_or, take, drop, Some, None, Option, sym, refl, ap, ◌∙◌, inl, inr, arith}
 use Rattle.std.proofs.lemmas.List.{at_drop_more, take_rest}
 use Rattle.std.proofs.lemmas.Bool.{cond-true, cond-false, cases_lt, cases_eq, eq-eqb, ne_eqb, le-leb, lt-leb}
-use Rattle.console.specs.Roles.{Opening}
-use Rattle.console.specs.Grammar.{onto, parts, numerals, up_to_three, decided, asked, saying, sentence, command}
+use Rattle.console.specs.Grammar.{Opening, onto, parts, numerals, up_to_three, decided, asked, saying, sentence, command}
 
 -- more than three numbers say nothing
 saying_few : (c : ℕ) (o : Option (List ℕ)) → saying c o ≡ saying c (up_to_three o)

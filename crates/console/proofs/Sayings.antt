@@ -1,12 +1,14 @@
 -- A line says a command exactly when the command is found in its parts.
 use Rattle.std.proofs.Common.{◌≡◌, ℕ, ◌+◌, ◌≤◌, true, false, cond, ◌&&◌, eqb, leb, List, [], ◌∷◌, ◌++◌, length, Some, None, Option, sym, refl, ap, ◌∙◌, subst, inl, inr, append-nil, arith}
+use Rattle.std.specs.List.{join_with_byte}
 use Rattle.std.proofs.lemmas.List.{length-append}
+use Rattle.std.proofs.lemmas.List.Splits.{join_with_byte-slice_split}
 use Rattle.std.proofs.lemmas.Bool.{cond-true, cond-false, cases_Bool, eqb-true, ne_eqb, le-leb, leb-true, and_parts}
 use Rattle.console.specs.declared.command.Command.{Command}
 use Rattle.console.specs.declared.command.Command.TheVariants.{Fix, Bar, WithdrawFix, WithdrawBar, Ask}
 use Rattle.console.specs.Grammar.{onto, parts, is_digit, all_digits, worth, numeral, before, numerals, decided, asked, saying, sentence, command}
 use Rattle.console.specs.Form.{behind_blanks, WithThree, WithTwo, Says}
-use Rattle.console.proofs.Bridge.{parts_by}
+use Rattle.console.proofs.Numbers.{cut_is}
 
 none_some : {B : Type 0} (k : Command) → ◌≡◌ {A = Option Command} None (Some k) → B
 none_some k e = let z : ◌≡◌ {A = ℕ} 0 1 = cc in absurd (omega arith)
@@ -16,26 +18,13 @@ abbrev together : List (List ℕ) → List ℕ
 together [] = []
 together (p ∷ ps) = p ++ behind_blanks ps
 
-blank_onto : (b : ℕ) (ps : List (List ℕ)) → behind_blanks (onto b ps) ≡ 32 ∷ together (onto b ps)
-blank_onto b [] = refl
-blank_onto b (p ∷ ps) = refl
-
-blank_together : (bs : List ℕ) → behind_blanks (parts bs) ≡ 32 ∷ together (parts bs)
-blank_together bs = parts_by behind_blanks (λ ps. 32 ∷ together ps) refl (λ ps. refl) blank_onto bs
-
-onto_together : (b : ℕ) (ps : List (List ℕ)) → together (onto b ps) ≡ b ∷ together ps
-onto_together b [] = refl
-onto_together b (p ∷ ps) = refl
+together_is : (ps : List (List ℕ)) → together ps ≡ join_with_byte 32 ps
+together_is [] = refl
+together_is (p ∷ []) = append-nil p
+together_is (p ∷ q ∷ ps) = ap (λ t. p ++ 32 ∷ t) (together_is (q ∷ ps))
 
 together_parts : (bs : List ℕ) → together (parts bs) ≡ bs
-together_parts [] = refl
-together_parts (b ∷ bs) =
-    elim (cases_Bool (eqb b 32)) [
-      | inl e ↦ ap together (cond-true (eqb b 32) ([] ∷ parts bs) (onto b (parts bs)) e) ∙ blank_together bs
-          ∙ ap (λ t. 32 ∷ t) (together_parts bs) ∙ ap (λ x. x ∷ bs) (sym (eqb-true b 32 e))
-      | inr e ↦ ap together (cond-false (eqb b 32) ([] ∷ parts bs) (onto b (parts bs)) e) ∙ onto_together b (parts bs)
-          ∙ ap (λ t. b ∷ t) (together_parts bs)
-    ]
+together_parts bs = together_is (parts bs) ∙ ap (join_with_byte 32) (sym (cut_is bs)) ∙ join_with_byte-slice_split 32 bs
 
 -- one case of a letter, and the others
 by_letter : (line : List ℕ) (c l : ℕ) (a k : Command) (o : Option Command) → cond (eqb c l) (Some a) o ≡ Some k

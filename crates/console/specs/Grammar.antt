@@ -1,6 +1,6 @@
 -- The form of a line: at most 40 bytes, in parts with one blank between two. The first part is a letter, and the
 -- others are numbers of one to seven decimal digits: person, option and value, or person and budget.
-use Rattle.std.specs.Prelude.{ℕ, ◌+◌, ◌-◌, ◌*◌, Bool, true, cond, ◌&&◌, List, [], ◌∷◌, length, Some, None, Option, ◌==◌, nat_le, slice_index}
+use Rattle.std.specs.Prelude.{◌≡◌, ℕ, ◌≤◌, ◌+◌, ◌-◌, ◌*◌, Bool, true, cond, ◌&&◌, List, [], ◌∷◌, length, Some, None, Option, ◌==◌, nat_le, slice_index}
 use Rattle.console.specs.declared.command.Command.{Command}
 use Rattle.console.specs.declared.command.Command.TheVariants.{Fix, Bar, WithdrawFix, WithdrawBar, Ask}
 
@@ -80,3 +80,7 @@ sentence (p ∷ ps) = led p ps
 
 abbrev pub command : List ℕ → Option Command
 command line = cond (nat_le (length line) 40) (sentence (parts line)) None
+
+-- at most 40 bytes, the second of them a blank
+abbrev pub Opening : List ℕ → Type 0
+Opening line = (2 ≤ length line) × (length line ≤ 40) × (slice_index line 1 ≡ 32)

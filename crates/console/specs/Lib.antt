@@ -1,5 +1,3 @@
 pub mod Grammar
-pub mod Listed
-pub mod Roles
 pub mod Printed
 pub mod Form

@@ -1,3 +1,4 @@
+// Four variants have the same three numbers: a program prints the derived `Debug`, and what it prints stays.
 /// What a line asks for. Its numbers are as the line has them: whoever obeys it asks whether they are in the book.
 #[derive(Clone, Copy, PartialEq, Eq, Debug)]
 pub enum Command {

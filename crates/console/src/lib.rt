@@ -2,11 +2,9 @@
 #![tactic(auto)]
 
 mod command;
-mod numbers;
 mod printing;
 mod reading;
 mod reply;
-mod role;
 
 pub use command::Command;
 pub use printing::line;

@@ -1,56 +1,48 @@
-ghost use Rattle.std.specs.Prelude.{◌≡◌, ◌++◌, IfOk, string_bytes, codes, decimal, OnOk};
-ghost use Rattle.console.specs.Printed.{printed, spaced, fit_line_of};
+// Replies as the lines that tell them.
+ghost use Rattle.std.specs.Prelude.{◌≡◌, IfOk, Some, string_bytes};
+ghost use Rattle.console.specs.Printed.{printed, spaced};
 
 use crate::reply::Reply;
 use std::alloc::{AllocError, Global};
+use std::fmt;
 
-/// A blank and a value, behind what is there.
-fn add_value(out: &mut String, value: u8) -> Result<(), AllocError>
-    ensures { OnOk result (string_bytes out.new ≡ string_bytes out.old ++ (codes " " ++ decimal value)) }
-{
-    use std::fmt::Write;
-    match write!(out, " {value}") {
-        Ok(()) => Ok(()),
-        Err(_) => Err(AllocError),
+/// Values, each behind a blank.
+#[derive(Clone, Copy)]
+struct Spaced<'a>(&'a [u8]);
+
+impl fmt::Display for Spaced<'_> {
+    ghost output = { λ s. Some (spaced s.0.now) };
+
+    fn fmt<W: fmt::Write>(&self, f: &mut fmt::Formatter<W>) -> fmt::Result {
+        for value in self.0 {
+            write!(f, " {value}")?;
+        }
+        Ok(())
     }
 }
 
-/// Each value behind a blank, behind what is there.
-fn add_values(out: &mut String, values: &[u8]) -> Result<(), AllocError>
-    ensures { OnOk result (string_bytes out.new ≡ string_bytes out.old ++ spaced values.now) }
-{
-    for value in values {
-        add_value(out, *value)?;
-    }
-    Ok(())
-}
+impl fmt::Display for Reply<'_> {
+    ghost output = { λ r. Some (printed r) };
 
-/// The line that tells a fit.
-fn fit_line(heap: Global, values: &[u8], count: u32) -> Result<String, AllocError>
-    ensures { IfOk result (λ s. string_bytes s ≡ fit_line_of values.now count) }
-{
-    let mut shown = String::new(heap);
-    add_values(&mut shown, values)?;
-    format!(in heap; "fit{shown} in {count}")
+    fn fmt<W: fmt::Write>(&self, f: &mut fmt::Formatter<W>) -> fmt::Result {
+        match *self {
+            Reply::Ok => write!(f, "ok"),
+            Reply::No(question) => write!(f, "no {}", question.number()),
+            Reply::Fit { values, count } => write!(f, "fit{} in {count}", Spaced(values)),
+            Reply::None { count } => write!(f, "none in {count}"),
+            Reply::Stop { count } => write!(f, "stop in {count}"),
+            Reply::Unknown => write!(f, "?"),
+            Reply::Book { question, bit } => {
+                let number = question.number();
+                write!(f, "book {number} at {bit}")
+            }
+        }
+    }
 }
 
 /// The line that tells a reply, without its line feed.
 pub fn line(heap: Global, reply: Reply) -> Result<String, AllocError>
     ensures { IfOk result (λ s. string_bytes s ≡ printed reply.entry) }
 {
-    match reply {
-        Reply::Ok => format!(in heap; "ok"),
-        Reply::No(question) => {
-            let number = question.number();
-            format!(in heap; "no {number}")
-        }
-        Reply::Fit { values, count } => fit_line(heap, values, count),
-        Reply::None { count } => format!(in heap; "none in {count}"),
-        Reply::Stop { count } => format!(in heap; "stop in {count}"),
-        Reply::Unknown => format!(in heap; "?"),
-        Reply::Book { question, bit } => {
-            let number = question.number();
-            format!(in heap; "book {number} at {bit}")
-        }
-    }
+    format!(in heap; "{reply}")
 }

@@ -1,65 +1,48 @@
 ghost use Rattle.std.specs.Prelude.{◌≡◌, Some, Decides};
 ghost use Rattle.std.specs.Option.{option_map};
-ghost use Rattle.console.specs.Grammar.{parts, numerals, up_to_three, decided, asked, ordered, command};
+ghost use Rattle.console.specs.Grammar.{Opening, parts, numeral, numerals, up_to_three, decided, asked, ordered, command};
 ghost use Rattle.console.specs.Form.{Says};
-ghost use Rattle.console.specs.Listed.{listed};
-ghost use Rattle.console.specs.Roles.{Fitting, Opening};
 
 use crate::command::Command;
-use crate::numbers::Numbers;
-use crate::role::Role;
+use arrayvec::ArrayVec;
 
 /// The most bytes that a line has.
 const LONGEST: usize = 40;
 
 /// The most digits that a number has.
-const DIGITS: u8 = 7;
+const DIGITS: usize = 7;
 
-/// What a byte behind the letter is, after so many digits of its number and so many whole numbers before it.
-fn role(byte: u8, digits: u8, count: usize) -> Role
-    ensures { Fitting byte digits count result }
+/// The number that a part says in one to seven digits; none where it is no such number.
+fn numeral(part: &[u8]) -> Option<u32>
+    ensures { result ≡ numeral part.now }
 {
-    if b'0' <= byte && byte <= b'9' && digits < DIGITS {
-        return Role::Digit;
+    if part.is_empty() || part.len() > DIGITS {
+        return None;
     }
-    if byte == b' ' && 0 < digits && count < 2 {
-        return Role::Blank;
+    let mut value = 0u32;
+    for byte in part {
+        if *byte < b'0' || b'9' < *byte {
+            return None;
+        }
+        value = value * 10 + (*byte - b'0') as u32;
     }
-    Role::Wrong
+    Some(value)
 }
 
 /// The numbers of a text in which one blank stands between two of them; none where a part is no number of one to
 /// seven digits, or where there are more than three.
-fn read_numbers(text: &[u8]) -> Option<Numbers>
-    ensures { option_map listed result ≡ up_to_three (numerals (parts text.now)) }
+fn read_numbers(text: &[u8]) -> Option<ArrayVec<u32, 3>>
+    ensures { option_map (λ numbers. numbers.items) result ≡ up_to_three (numerals (parts text.now)) }
 {
-    let mut at = [0u32; 3];
-    let mut count = 0usize;
-    let mut value = 0u32;
-    let mut digits = 0u8;
-    for byte in text {
-        match role(*byte, digits, count) {
-            Role::Digit => {
-                value = value * 10 + (*byte - b'0') as u32;
-                digits += 1;
-            }
-            Role::Blank => {
-                at[count] = value;
-                count += 1;
-                value = 0;
-                digits = 0;
-            }
-            Role::Wrong => return None,
+    let mut numbers = ArrayVec::new();
+    for part in text.split(|byte| *byte == b' ') {
+        let number = numeral(part)?;
+        if numbers.is_full() {
+            return None;
         }
+        numbers.push(number);
     }
-    if digits == 0 {
-        return None;
-    }
-    at[count] = value;
-    Some(Numbers {
-        at,
-        count: count + 1,
-    })
+    Some(numbers)
 }
 
 /// The decision that a letter and three numbers say.
@@ -102,12 +85,12 @@ fn ask(letter: u8, person: u32, budget: u32) -> Option<Command>
 }
 
 /// What a letter and the numbers behind it say.
-fn order(letter: u8, found: Numbers) -> Option<Command>
-    ensures { result ≡ ordered letter (listed found) }
+fn order(letter: u8, numbers: &[u32]) -> Option<Command>
+    ensures { result ≡ ordered letter numbers.now }
 {
-    match found.count {
-        3 => decision(letter, found.at[0], found.at[1], found.at[2]),
-        2 => ask(letter, found.at[0], found.at[1]),
+    match *numbers {
+        [person, option, value] => decision(letter, person, option, value),
+        [person, budget] => ask(letter, person, budget),
         _ => None,
     }
 }
@@ -127,8 +110,6 @@ pub fn parse(line: &[u8]) -> Option<Command>
     if !opens(line) {
         return None;
     }
-    match read_numbers(&line[2..]) {
-        Some(found) => order(line[0], found),
-        None => None,
-    }
+    let numbers = read_numbers(&line[2..])?;
+    order(line[0], numbers.as_slice())
 }

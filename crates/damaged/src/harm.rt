@@ -15,18 +15,8 @@ pub enum Harm {
     LeftOut,
 }
 
-/// How many ways there are.
-pub const HARMS: usize = 4;
-
-/// The way with this number.
-pub fn numbered(number: usize) -> Harm {
-    match number % HARMS {
-        0 => Harm::Turned,
-        1 => Harm::Cut,
-        2 => Harm::PutIn,
-        _ => Harm::LeftOut,
-    }
-}
+/// Each way.
+pub const HARMS: [Harm; 4] = [Harm::Turned, Harm::Cut, Harm::PutIn, Harm::LeftOut];
 
 /// The bytes with one to three bits turned.
 fn turned(heap: Global, file: &[u8], dice: &mut Dice) -> Result<Vec<u8>, AllocError> {

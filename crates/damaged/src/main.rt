@@ -4,10 +4,10 @@
 
 mod harm;
 
-use crate::harm::{HARMS, harmed, numbered};
+use crate::harm::{HARMS, harmed};
 use book::Row;
 use made_books::{Dice, build, random_plan};
-use readings::{Finding, first, second};
+use readings::{first, second};
 use std::io;
 
 /// How many books are made.
@@ -16,85 +16,98 @@ const BOOKS: usize = 3000;
 /// How often the file of each book is damaged in each way.
 const TIMES: usize = 4;
 
-/// What was found so far.
-#[derive(Drop)]
+/// What was found so far: how many files were read, and how many each question refused, by its number.
+#[derive(Default, Drop)]
 struct Tally {
     read: usize,
     refusals: [usize; 24],
     differences: usize,
 }
 
-impl Tally {
-    fn new() -> Tally {
-        Tally {
-            read: 0,
-            refusals: [0; 24],
-            differences: 0,
-        }
-    }
+/// One more.
+fn raise(count: &mut usize) {
+    *count = count.wrapping_add(1);
+}
 
+impl Tally {
     /// Reads a file in both ways: whether they agree.
     fn compare(&mut self, file: &[u8], rows: &mut [Row]) -> bool {
         let theirs = second(file, rows.len());
         let ours = first(file, rows);
         match ours {
-            Finding::Book(_) => self.read = self.read.wrapping_add(1),
-            Finding::Refused(number, _) => {
-                let place = number as usize % 24;
-                self.refusals[place] = self.refusals[place].wrapping_add(1);
+            Ok(_) => raise(&mut self.read),
+            Err(refusal) => {
+                if let Some(count) = self.refusals.get_mut(refusal.question.number() as usize) {
+                    raise(count);
+                }
             }
         }
         let alike = ours == theirs;
         if !alike {
-            self.differences = self.differences.wrapping_add(1);
+            raise(&mut self.differences);
         }
         alike
     }
-}
 
-/// Damages a file so often in each way.
-fn damage(
-    rt: &HostRuntime,
-    file: &[u8],
-    rows: &mut [Row],
-    seed: usize,
-    dice: &mut Dice,
-    tally: &mut Tally,
-) -> io::Result<()> {
-    for time in 0..HARMS * TIMES {
-        let bytes = harmed(rt.alloc(), file, numbered(time), dice)?;
-        if !tally.compare(&bytes, rows) {
-            println!(rt; "  DIFFERENT at seed {seed}, damage {time}")?;
+    fn show(&self, rt: &HostRuntime, what: &str) -> io::Result<()> {
+        let read = self.read;
+        let differences = self.differences;
+        println!(rt; "{what}: {read} read, {differences} differences")?;
+        for (number, count) in self.refusals.iter().enumerate() {
+            if *count > 0 {
+                println!(rt; "  refused by {number}: {count}")?;
+            }
         }
+        Ok(())
     }
-    Ok(())
 }
 
-fn show(rt: &HostRuntime, what: &str, tally: &Tally) -> io::Result<()> {
-    let read = tally.read;
-    let differences = tally.differences;
-    println!(rt; "{what}: {read} read, {differences} differences")?;
-    for (number, count) in tally.refusals.iter().enumerate() {
-        if *count > 0 {
-            println!(rt; "  refused by {number}: {count}")?;
+/// The files that were tried, whole and damaged, and room for their rows.
+#[derive(Drop)]
+struct Trials<'a> {
+    rt: &'a HostRuntime,
+    rows: Vec<Row>,
+    whole: Tally,
+    broken: Tally,
+}
+
+impl Trials<'_> {
+    /// Damages a file so often in each way.
+    fn damage(&mut self, file: &[u8], seed: usize, dice: &mut Dice) -> io::Result<()> {
+        let rt = self.rt;
+        let times = HARMS.len() * TIMES;
+        for (time, harm) in HARMS.iter().cycle().take(times).enumerate() {
+            let bytes = harmed(rt.alloc(), file, *harm, dice)?;
+            if !self.broken.compare(&bytes, &mut self.rows) {
+                println!(rt; "  DIFFERENT at seed {seed}, damage {time}")?;
+            }
         }
+        Ok(())
     }
-    Ok(())
-}
 
-fn main(rt: HostRuntime) -> io::Result<()> {
-    let mut rows = vec![in rt.alloc(); [0u8; 4]; 512]?;
-    let mut whole = Tally::new();
-    let mut broken = Tally::new();
-    for seed in 0..BOOKS {
+    /// Tries the file of a random book, whole and damaged.
+    fn try_book(&mut self, seed: usize) -> io::Result<()> {
+        let rt = self.rt;
         let mut dice = Dice::new(seed.wrapping_mul(0x9e3779b97f4a7c15));
         let plan = random_plan(rt.alloc(), &mut dice)?;
         let file = build(rt.alloc(), &plan)?;
-        if !whole.compare(&file, &mut rows) {
+        if !self.whole.compare(&file, &mut self.rows) {
             println!(rt; "  DIFFERENT at seed {seed}")?;
         }
-        damage(&rt, &file, &mut rows, seed, &mut dice, &mut broken)?;
+        self.damage(&file, seed, &mut dice)
     }
-    show(&rt, "whole files", &whole)?;
-    show(&rt, "damaged files", &broken)
+}
+
+fn main(rt: HostRuntime) -> io::Result<()> {
+    let mut trials = Trials {
+        rt: &rt,
+        rows: vec![in rt.alloc(); [0u8; 4]; 512]?,
+        whole: Tally::default(),
+        broken: Tally::default(),
+    };
+    for seed in 0..BOOKS {
+        trials.try_book(seed)?;
+    }
+    trials.whole.show(&rt, "whole files")?;
+    trials.broken.show(&rt, "damaged files")
 }

@@ -1,2 +1,1 @@
-pub mod ByCommand
 pub mod Lists

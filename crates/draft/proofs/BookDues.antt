@@ -33,16 +33,9 @@ module _ (sizes lengths : List ℕ) (ts : List Table) (m : ℕ) (letters : List 
   parts_are : fields whole ≡ part_fields sizes lengths ts m letters
   parts_are = (λ i. count_fields (length sizes) (counted i) ++ (option_fields 0 sizes (cut_lengths letters lengths (omega arith) i) ++ (tables_fields 0 0 ts ++ tail_fields (joined_cut letters lengths spelled i))))
 
-  module _ (valid : Valid whole) (fit : AllByRecursion Fit (fields whole)) (out₀ : List ℕ) (pen₀ : Pen) (long : length out₀ ≡ file_length_of whole) (at₀ : pen₀.at ≡ 0) (count₀ : pen₀.count ≡ 0) (held₀ : pen₀.held ≡ 0) where
-    none : place pen₀ ≡ 0
-    none = omega arith
-
+  module _ (out₀ : List ℕ) (pen₀ : Pen) (ready : Ready pen₀ out₀ (fields whole)) where
     start : Ready pen₀ out₀ (part_fields sizes lengths ts m letters)
-    start = subst (Ready pen₀ out₀) parts_are (record {
-      room = (let e : place pen₀ + length (spelt (place pen₀) (fields whole)) ≡ 0 + length (spelt 0 (fields whole)) = ap (λ k. k + length (spelt k (fields whole))) none in omega (arith, e, fields_long whole valid));
-      short = omega (arith, valid_short whole valid fit);
-      fit = fit;
-    })
+    start = subst (Ready pen₀ out₀) parts_are ready
 
     d₀ : Due out₀ pen₀ out₀ pen₀ (part_fields sizes lengths ts m letters) (part_fields sizes lengths ts m letters)
     d₀ = due_none out₀ pen₀ (part_fields sizes lengths ts m letters) start
@@ -92,13 +85,28 @@ module _ (sizes lengths : List ℕ) (ts : List Table) (m : ℕ) (letters : List 
                 pub names_ready : Ready pen₆ out₆ (numbered Field.NameByte 0 letters)
                 names_ready = d₆.ready
 
-                pub book_wrote : (out₇ : List ℕ) (pen₇ : Pen) → length out₇ ≡ length out₆ → Wrote out₆ pen₆ out₇ pen₇ (numbered Field.NameByte 0 letters) → AllByRecursion (λ b. b < 256) out₇ → out₇ ≡ encode whole
-                book_wrote out₇ pen₇ l₇ w₇ bytes =
-                    let w : Wrote out₀ pen₀ out₇ pen₇ (fields whole) = subst (Wrote out₀ pen₀ out₇ pen₇) (sym parts_are) (due_last _ _ _ _ _ _ d₆ out₇ pen₇ l₇ w₇) in
-                    let bs = spelt 0 (fields whole) in
-                    let e : inked out₇ pen₇ ≡ bs =
-                    w.ink ∙ (λ i. ink out₀ (at₀ i) (count₀ i) (held₀ i) ++ spelt (none i) (fields whole)) ∙ ap (λ l. l ++ bs) (ink_none out₀) in
-                    let p : place pen₇ ≡ 0 + length bs = w.on ∙ ap (λ k. k + length (spelt k (fields whole))) none in
-                    let size = fields_long whole valid in
-                    sym (take_all pen₇.at out₇ (omega (arith, pen₇.few)))
-                    ∙ ink_whole out₇ pen₇.at pen₇.count pen₇.held bs e (omega (arith, pen₇.few)) bytes
+                pub fields_wrote : (out₇ : List ℕ) (pen₇ : Pen) → length out₇ ≡ length out₆ → Wrote out₆ pen₆ out₇ pen₇ (numbered Field.NameByte 0 letters) → Wrote out₀ pen₀ out₇ pen₇ (fields whole)
+                fields_wrote out₇ pen₇ l₇ w₇ = subst (Wrote out₀ pen₀ out₇ pen₇) (sym parts_are) (due_last _ _ _ _ _ _ d₆ out₇ pen₇ l₇ w₇)
+
+-- a pen at the first bit of a slice as long as the file of a book
+module _ (c : Contents) (valid : Valid c) (fit : AllByRecursion Fit (fields c)) (out₀ : List ℕ) (pen₀ : Pen) (long : length out₀ ≡ file_length_of c) (at₀ : pen₀.at ≡ 0) (count₀ : pen₀.count ≡ 0) (held₀ : pen₀.held ≡ 0) where
+  none : place pen₀ ≡ 0
+  none = omega arith
+
+  pub book_ready : Ready pen₀ out₀ (fields c)
+  book_ready = record {
+    room = (let e : place pen₀ + length (spelt (place pen₀) (fields c)) ≡ 0 + length (spelt 0 (fields c)) = ap (λ k. k + length (spelt k (fields c))) none in omega (arith, e, fields_long c valid));
+    short = omega (arith, valid_short c valid fit);
+    fit = fit;
+  }
+
+  pub book_wrote : (out : List ℕ) (pen : Pen) → length out ≡ length out₀ → Wrote out₀ pen₀ out pen (fields c) → (all : List ℕ) → all ≡ out → AllByRecursion (λ b. b < 256) all → all ≡ encode c
+  book_wrote out pen same w all is bytes =
+      let bs = spelt 0 (fields c) in
+      let e : inked out pen ≡ bs =
+      w.ink ∙ (λ i. ink out₀ (at₀ i) (count₀ i) (held₀ i) ++ spelt (none i) (fields c)) ∙ ap (λ l. l ++ bs) (ink_none out₀) in
+      let p : place pen ≡ 0 + length bs = w.on ∙ ap (λ k. k + length (spelt k (fields c))) none in
+      let size = fields_long c valid in
+      is
+      ∙ sym (take_all pen.at out (omega (arith, pen.few)))
+      ∙ ink_whole out pen.at pen.count pen.held bs e (omega (arith, pen.few)) (subst (AllByRecursion (λ b. b < 256)) is bytes)

@@ -1,5 +1,5 @@
 -- Writing fields in turns: what is written, with what is left to write, is all.
-use Rattle.std.proofs.Common.{◌≡◌, ℕ, ◌+◌, ◌-◌, ◌^◌, ◌<◌, ◌≤◌, List, [], ◌∷◌, ◌++◌, length, drop, Some, None, sym, refl, ap, ◌∙◌, subst, append_assoc, append-nil, arith, length-append}
+use Rattle.std.proofs.Common.{◌≡◌, ℕ, ◌+◌, ◌-◌, ◌^◌, ◌<◌, ◌≤◌, List, [], ◌∷◌, ◌++◌, length, drop, Some, sym, refl, ap, ◌∙◌, subst, append_assoc, append-nil, arith, length-append}
 use Rattle.std.specs.List.{AllByRecursion}
 use Rattle.bits.specs.Bits.{spell}
 use Rattle.bits.specs.Ink.{inked, place}
@@ -9,7 +9,8 @@ use Rattle.book_fields.specs.declared.field.Field.{Field}
 use Rattle.book_fields.specs.Fields.{layout}
 use Rattle.draft.specs.Entries.{Entry}
 use Rattle.draft.specs.Encoding.{in_bits, code, spelt, FitsIn, Fit}
-use Rattle.draft.specs.Writing.{Ready, Wrote}
+use Rattle.draft.specs.Writing.{Kept, Ready, Wrote}
+use Rattle.draft.specs.declared.fields.FieldWriter.{FieldWriter}
 use Rattle.draft.proofs.Spelling.{spelt_none, spelt_append, length_spelt_append}
 
 all_left : (xs ys : List Entry) → AllByRecursion Fit (xs ++ ys) → AllByRecursion Fit xs
@@ -20,6 +21,9 @@ all_right : (xs ys : List Entry) → AllByRecursion Fit (xs ++ ys) → AllByRecu
 all_right [] ys a = a
 all_right (x ∷ xs) ys a = all_right xs ys a.1
 
+pub kept_on : (a b c : FieldWriter) → Kept b c → Kept a b → Kept a c
+kept_on a b c k h = record { slice = k.slice ∙ h.slice; long = k.long ∙ h.long }
+
 -- one field, by its layout
 pub one_spelt : (f : Field) (v at : ℕ) → spelt at ((f, v) ∷ []) ≡ in_bits v (layout f at)
 unfolding spelt
@@ -27,9 +31,6 @@ one_spelt f v at = append-nil (code (f, v) at)
 
 pub one_fits : (f : Field) (v at w a : ℕ) → layout f at ≡ Some (w, a) → Fit (f, v) → (a ≤ v) × (v - a < 2 ^ w)
 one_fits f v at w a e h = subst (FitsIn v) e (h at)
-
-pub one_none : (f : Field) (v at : ℕ) → layout f at ≡ None → Fit (f, v) → ⊥
-one_none f v at e h = subst (FitsIn v) e (h at)
 
 pub one_long : (f : Field) (v at w a : ℕ) → layout f at ≡ Some (w, a) → length (spelt at ((f, v) ∷ [])) ≡ w
 one_long f v at w a e = ap length (one_spelt f v at) ∙ ap (λ l. length (in_bits v l)) e ∙ length_spell w (v - a)

@@ -7,7 +7,6 @@ pub mod Trips
 pub mod Dues
 pub mod TableDues
 pub mod BookDues
-pub mod Clamps
 pub mod Fitting
 pub mod WriteDraft
 pub mod Rewriting

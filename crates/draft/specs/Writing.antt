@@ -6,6 +6,7 @@ use Rattle.bits.specs.declared.pen.Pen.{Pen}
 use Rattle.book_fields.specs.declared.field.Field.{Field}
 use Rattle.draft.specs.Entries.{Entry}
 use Rattle.draft.specs.Encoding.{spelt, Fit}
+use Rattle.draft.specs.declared.fields.FieldWriter.{FieldWriter}
 use Rattle.draft.specs.declared.strokes.Run.{Run}
 
 -- the slice has room for the fields behind what a pen has written, and each field has bits for its value
@@ -19,6 +20,11 @@ pub record Wrote (out : List ℕ) (pen : Pen) (out' : List ℕ) (pen' : Pen) (es
   pub ink : inked out' pen' ≡ inked out pen ++ spelt (place pen) es
   pub on : place pen' ≡ place pen + length (spelt (place pen) es)
   pub rest : (k : ℕ) → pen'.at ≤ k → drop k out' ≡ drop k out
+
+-- a writer has the slice that it had, of the length that it had
+pub record Kept (old new : FieldWriter) : Type 0 where
+  pub slice : new.out.ghost_name ≡ old.out.ghost_name
+  pub long : length new.out.now ≡ length old.out.now
 
 -- the field at a place of a run
 abbrev pub field_at : Run → ℕ → Field

@@ -1,9 +1,9 @@
 -- What writing gives: the bytes of a file, or the first question answered no.
-use Rattle.std.specs.Prelude.{◌≡◌, ℕ, ◌≤◌, List, ◌++◌, map, length, take, drop, Ok, Err, Result, nat_le}
+use Rattle.std.specs.Prelude.{◌≡◌, ℕ, ◌≤◌, List, ◌++◌, map, length, take, drop, Ok, Err, Result, nat_le, sum}
 use Rattle.questions.specs.declared.question.Question.{Question}
 use Rattle.book_fields.specs.declared.field.Field.{Field}
 use Rattle.book_fields.specs.declared.field.Fault.{Fault}
-use Rattle.grammar.specs.Contents.{Contents}
+use Rattle.grammar.specs.Contents.{Contents, Valid}
 use Rattle.grammar.specs.Layout.{cut, table_of}
 use Rattle.book_source.specs.Readings.{ask, and_then}
 use Rattle.grammar.specs.Grammar.{book}
@@ -16,6 +16,12 @@ use Rattle.draft.specs.declared.parts.Parts.{Parts}
 -- the contents of a book in parts
 abbrev pub contents_in : Parts → Contents
 contents_in p = record { sizes = p.sizes.now; names = cut p.letters.now p.lengths.now; tables = map (table_of p.rows.now) p.tables.now }
+
+-- what holds of parts that are to be written
+pub record Writable (p : Parts) : Type 0 where
+  pub valid : Valid (contents_in p)
+  pub spelled : length p.letters.now ≡ sum p.lengths.now
+  pub short : length p.letters.now ≤ 32768
 
 -- bytes, if a slice has room for them
 abbrev pub fitted : List ℕ → ℕ → Result (List ℕ) Fault

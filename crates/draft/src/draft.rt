@@ -1,6 +1,7 @@
 // The contents of a book in plain slices.
 use book::Row;
 
+// Slices side by side: the caller lends them, and whether each is long enough is asked as a file is asked.
 /// What a book is to say, in slices that the caller lends. There may be more in a slice than the numbers of options, tables and rows name.
 #[derive(Clone, Copy, Debug)]
 pub struct Draft<'a> {

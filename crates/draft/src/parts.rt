@@ -1,6 +1,7 @@
 // The parts of a book that is to be written.
 use book::{Row, TableIndex};
 
+// Slices side by side, as a read book and a draft lend them: the writer takes both alike.
 /// The sizes and name lengths of the options, the tables with the rows among which theirs are, and the bytes of all names.
 #[derive(Clone, Copy)]
 pub struct Parts<'a> {

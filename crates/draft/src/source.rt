@@ -1,42 +1,17 @@
 // A draft as a source of fields.
 ghost use Rattle.std.specs.Prelude.{◌≡◌};
-ghost use Rattle.draft.specs.Drafts.{held, in_draft, listed, listed_at};
+ghost use Rattle.draft.specs.Drafts.{held, in_draft, listed_at};
 
 use crate::draft::Draft;
 use book::{Fault, Field, Row, Source};
 use questions::Question;
 
-/// The byte at a place of a slice.
-fn byte_at(bytes: &[u8], i: usize) -> Option<usize>
-    ensures { result ≡ listed bytes.now i }
-{
-    if i < bytes.len() {
-        Some(bytes[i] as usize)
-    } else {
-        None
-    }
-}
-
-/// The number at a place of a slice.
-fn count_at(counts: &[u16], i: usize) -> Option<usize>
-    ensures { result ≡ listed counts.now i }
-{
-    if i < counts.len() {
-        Some(counts[i] as usize)
-    } else {
-        None
-    }
-}
-
 /// The value at a place of a row of a slice.
 fn value_at(rows: &[Row], i: usize, j: usize) -> Option<usize>
     ensures { result ≡ listed_at rows.now i j }
 {
-    if i < rows.len() {
-        byte_at(&rows[i], j)
-    } else {
-        None
-    }
+    let value = rows.get(i)?.get(j)?;
+    Some(usize::from(*value))
 }
 
 /// Gives the fields of a draft, each at the bit where it would begin in the file.
@@ -70,13 +45,13 @@ impl<'a> Drafted<'a> {
             Field::Edition => Some(1),
             Field::Options => Some(draft.options),
             Field::Tables => Some(draft.tables),
-            Field::Size(i) => byte_at(draft.sizes, i),
-            Field::NameLength(i) => byte_at(draft.lengths, i),
-            Field::ScopeLength(t) => byte_at(draft.arities, t),
+            Field::Size(i) => draft.sizes.get(i).map(|size| usize::from(*size)),
+            Field::NameLength(i) => draft.lengths.get(i).map(|length| usize::from(*length)),
+            Field::ScopeLength(t) => draft.arities.get(t).map(|arity| usize::from(*arity)),
             Field::ScopeOption(t, j) => value_at(draft.scopes, t, j),
-            Field::RowCount(t) => count_at(draft.counts, t),
+            Field::RowCount(t) => draft.counts.get(t).map(|count| usize::from(*count)),
             Field::Value(_, r, j) => value_at(draft.rows, r, j),
-            Field::NameByte(k) => byte_at(draft.letters, k),
+            Field::NameByte(k) => draft.letters.get(k).map(|letter| usize::from(*letter)),
         }
     }
 }

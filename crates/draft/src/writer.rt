@@ -1,20 +1,18 @@
 // Writing a whole book.
-ghost use Rattle.std.specs.Prelude.{◌≡◌, ◌≤◌, length, IfOk, sum};
+ghost use Rattle.std.specs.Prelude.{◌≡◌, ◌≤◌, length, IfOk};
 ghost use Rattle.std.specs.List.{AllByRecursion};
-ghost use Rattle.grammar.specs.Contents.{Valid};
 ghost use Rattle.draft.specs.Entries.{fields};
 ghost use Rattle.draft.specs.Encoding.{Fit, encode};
 ghost use Rattle.grammar.specs.Layout.{table_of};
 ghost use Rattle.draft.specs.Lengths.{file_length_of, table_bits_of};
-ghost use Rattle.draft.specs.Written.{Reread, contents_in, counted, fitted, overwritten, written};
+ghost use Rattle.draft.specs.Writing.{Kept, Ready, Wrote};
+ghost use Rattle.draft.specs.Written.{Reread, Writable, contents_in, counted, fitted, overwritten, written};
 
 use crate::draft::Draft;
-use crate::fields::{put, put_options, put_run};
+use crate::fields::FieldWriter;
 use crate::parts::Parts;
 use crate::source::Drafted;
 use crate::strokes::Run;
-use crate::tables::{front, put_tables, rows_of};
-use bits::Pen;
 use book::{Fault, Field, Row, TableIndex, read_from};
 use questions::Question;
 
@@ -25,48 +23,55 @@ fn table_bits(table: &TableIndex, rows: &[Row]) -> usize
     ensures value { result ≡ table_bits_of (table_of rows.now table.now) }
     ensures small { result ≤ 20514 }
 {
-    let arity = front(&table.scope, table.arity).len();
-    let count = rows_of(table, rows).len();
+    let arity = table.own_scope().len();
+    let count = table.rows_in(rows).len();
     14 + 5 * arity + 5 * arity * count
 }
 
 /// How many bytes the file of a book has.
 fn file_length(parts: &Parts) -> usize
-    requires valid { Valid (contents_in parts.now) }
-    requires spelled { length parts.now.letters.now ≡ sum parts.now.lengths.now }
-    requires short { length parts.now.letters.now ≤ 32768 }
+    requires parts { Writable parts.now }
     ensures { result ≡ file_length_of (contents_in parts.now) }
 {
     let mut bits = 19 + 10 * parts.sizes.len();
-    for i in 0..parts.tables.len() {
-        bits += table_bits(&parts.tables[i], parts.rows);
+    for table in parts.tables {
+        bits += table_bits(table, parts.rows);
     }
     (bits + 7) / 8 + parts.letters.len()
 }
 
+impl<'a> FieldWriter<'a> {
+    /// Writes all fields of a book.
+    fn put_parts(&mut self, parts: &Parts)
+        requires parts { Writable parts.now }
+        requires ready { Ready self.old.pen self.old.out.now (fields (contents_in parts.now)) }
+        ensures wrote { Wrote self.old.out.now self.old.pen self.new.out.now self.new.pen (fields (contents_in parts.now)) }
+        ensures kept { Kept self.old self.new }
+    {
+        self.put(Field::Edition, 1);
+        self.put(Field::Options, parts.sizes.len());
+        self.put(Field::Tables, parts.tables.len());
+        self.put_options(parts.sizes, parts.lengths);
+        self.put_tables(parts.tables, parts.rows);
+        self.put(Field::Filling, 0);
+        self.put_run(Run::Names, parts.letters);
+    }
+}
+
 /// Writes the file of a book, as long as `out` is.
 fn put_book(out: &mut [u8], parts: &Parts)
-    requires valid { Valid (contents_in parts.now) }
-    requires spelled { length parts.now.letters.now ≡ sum parts.now.lengths.now }
+    requires parts { Writable parts.now }
     requires fit { AllByRecursion Fit (fields (contents_in parts.now)) }
     requires long { length out.old ≡ file_length_of (contents_in parts.now) }
     ensures { out.new ≡ encode (contents_in parts.now) }
 {
-    let mut pen = Pen::new();
-    put(&mut pen, out, Field::Edition, 1);
-    put(&mut pen, out, Field::Options, parts.sizes.len());
-    put(&mut pen, out, Field::Tables, parts.tables.len());
-    put_options(&mut pen, out, parts.sizes, parts.lengths);
-    put_tables(&mut pen, out, parts.tables, parts.rows);
-    put(&mut pen, out, Field::Filling, 0);
-    put_run(&mut pen, out, Run::Names, parts.letters);
+    let mut writer = FieldWriter::new(out);
+    writer.put_parts(parts);
 }
 
 /// Writes a book into the first places of `out`, if it has room for all bytes; later places do not change. A refusal leaves `out` as it was.
 pub fn write_parts(parts: &Parts, out: &mut [u8]) -> Result<usize, Fault>
-    requires valid { Valid (contents_in parts.now) }
-    requires spelled { length parts.now.letters.now ≡ sum parts.now.lengths.now }
-    requires short { length parts.now.letters.now ≤ 32768 }
+    requires parts { Writable parts.now }
     requires fit { AllByRecursion Fit (fields (contents_in parts.now)) }
     ensures value { result ≡ counted (fitted (encode (contents_in parts.now)) (length out.old)) }
     ensures out { out.new ≡ overwritten (fitted (encode (contents_in parts.now)) (length out.old)) out.old }
@@ -74,11 +79,7 @@ pub fn write_parts(parts: &Parts, out: &mut [u8]) -> Result<usize, Fault>
 {
     let needed = file_length(parts);
     if out.len() < needed {
-        return Err(Fault {
-            question: Question::Room,
-            bit: 0,
-            field: Field::Whole,
-        });
+        return Err(Fault::whole(Question::Room));
     }
     put_book(&mut out[0..needed], parts);
     Ok(needed)

@@ -3,7 +3,7 @@
 
 use book::{Book, Fault, Row};
 use draft::Draft;
-use made_drafts::sample;
+use made_drafts::{Numbered, sample};
 use std::io;
 
 // The file of the sample, worked out by hand, field by field:
@@ -24,35 +24,37 @@ const FILE: [u8; 37] = [
 ];
 
 fn show_refusal(rt: &HostRuntime, what: &str, fault: Fault) -> io::Result<()> {
-    let number = fault.question.number();
-    let bit = fault.bit;
-    println!(rt; "{what}: question {number} at bit {bit}")
+    let place = Numbered(fault);
+    println!(rt; "{what}: question {place}")
 }
 
 /// Whether all bytes are the same.
 fn all_are(bytes: &[u8], byte: u8) -> bool {
-    for b in bytes {
-        if *b != byte {
-            return false;
-        }
-    }
-    true
+    bytes.iter().all(|b| *b == byte)
 }
 
-/// Writes a draft into a slice of sevens with room for 40 bytes.
-fn show(rt: &HostRuntime, what: &str, draft: &Draft) -> io::Result<()> {
-    let mut out = [7; 40];
-    match draft::write(draft, &mut out) {
+/// Writes a draft into a slice of sevens.
+fn show(rt: &HostRuntime, what: &str, draft: &Draft, out: &mut [u8]) -> io::Result<()> {
+    out.fill(7);
+    match draft::write(draft, out) {
         Ok(n) => {
             let rest = all_are(&out[n..], 7);
             println!(rt; "{what}: {n} bytes, the rest as it was: {rest}")
         }
         Err(fault) => {
             show_refusal(rt, what, fault)?;
-            let same = all_are(&out, 7);
+            let same = all_are(out, 7);
             println!(rt; "  the slice as it was: {same}")
         }
     }
+}
+
+/// Writes each draft.
+fn show_all(rt: &HostRuntime, drafts: &[(&str, Draft)]) -> io::Result<()> {
+    for (what, draft) in drafts {
+        show(rt, what, draft, &mut [0; 40])?;
+    }
+    Ok(())
 }
 
 fn show_sample(rt: &HostRuntime) -> io::Result<()> {
@@ -66,129 +68,160 @@ fn show_sample(rt: &HostRuntime) -> io::Result<()> {
     }
 }
 
-fn show_no_room(rt: &HostRuntime) -> io::Result<()> {
-    let mut out = [7; 36];
-    match draft::write(&sample(), &mut out) {
-        Ok(n) => println!(rt; "room for 36 bytes: {n} bytes"),
-        Err(fault) => {
-            show_refusal(rt, "room for 36 bytes", fault)?;
-            let same = all_are(&out, 7);
-            println!(rt; "  the slice as it was: {same}")
-        }
-    }
-}
-
-fn with_counts(rt: &HostRuntime, what: &str, options: usize, tables: usize) -> io::Result<()> {
-    let draft = Draft {
-        options,
-        tables,
-        ..sample()
-    };
-    show(rt, what, &draft)
-}
-
-fn with_sizes(rt: &HostRuntime, what: &str, sizes: &[u8]) -> io::Result<()> {
-    show(rt, what, &Draft { sizes, ..sample() })
-}
-
-fn with_lengths(rt: &HostRuntime, what: &str, lengths: &[u8]) -> io::Result<()> {
-    show(
-        rt,
-        what,
-        &Draft {
-            lengths,
-            ..sample()
-        },
-    )
-}
-
-fn with_arities(rt: &HostRuntime, what: &str, arities: &[u8]) -> io::Result<()> {
-    show(
-        rt,
-        what,
-        &Draft {
-            arities,
-            ..sample()
-        },
-    )
-}
-
-fn with_row_counts(rt: &HostRuntime, what: &str, counts: &[u16]) -> io::Result<()> {
-    show(rt, what, &Draft { counts, ..sample() })
-}
-
-fn with_letters(rt: &HostRuntime, what: &str, letters: &[u8]) -> io::Result<()> {
-    show(
-        rt,
-        what,
-        &Draft {
-            letters,
-            ..sample()
-        },
-    )
-}
-
-fn without_scope(rt: &HostRuntime) -> io::Result<()> {
-    let draft = Draft {
-        scopes: &[[0, 1, 0, 0]],
-        ..sample()
-    };
-    show(rt, "a scope short", &draft)
-}
-
-fn without_row(rt: &HostRuntime) -> io::Result<()> {
-    let draft = Draft {
-        rows: &[
-            [0, 0, 0, 0],
-            [1, 0, 0, 0],
-            [1, 1, 0, 0],
-            [2, 1, 0, 0],
-            [0, 0, 0, 0],
-            [0, 1, 0, 0],
-        ],
-        ..sample()
-    };
-    show(rt, "a row short", &draft)
-}
-
 /// Drafts each with a slice that is one place short.
 fn show_short(rt: &HostRuntime) -> io::Result<()> {
-    with_sizes(rt, "a size short", &[3, 2])?;
-    with_lengths(rt, "a name length short", &[4, 7])?;
-    with_arities(rt, "a scope length short", &[2])?;
-    without_scope(rt)?;
-    with_row_counts(rt, "a row count short", &[4])?;
-    without_row(rt)?;
-    with_letters(rt, "a name byte short", b"gatedividerstan")
+    let whole = sample();
+    let drafts = [
+        (
+            "a size short",
+            Draft {
+                sizes: &[3, 2],
+                ..whole
+            },
+        ),
+        (
+            "a name length short",
+            Draft {
+                lengths: &[4, 7],
+                ..whole
+            },
+        ),
+        (
+            "a scope length short",
+            Draft {
+                arities: &[2],
+                ..whole
+            },
+        ),
+        (
+            "a scope short",
+            Draft {
+                scopes: &[[0, 1, 0, 0]],
+                ..whole
+            },
+        ),
+        (
+            "a row count short",
+            Draft {
+                counts: &[4],
+                ..whole
+            },
+        ),
+        (
+            "a row short",
+            Draft {
+                rows: &whole.rows[..6],
+                ..whole
+            },
+        ),
+        (
+            "a name byte short",
+            Draft {
+                letters: b"gatedividerstan",
+                ..whole
+            },
+        ),
+    ];
+    show_all(rt, &drafts)
 }
 
 /// Drafts each with a number just outside its range.
 fn show_ranges(rt: &HostRuntime) -> io::Result<()> {
-    with_sizes(rt, "size 0", &[3, 0, 2])?;
-    with_sizes(rt, "size 33", &[3, 33, 2])?;
-    with_lengths(rt, "name length 0", &[4, 7, 0])?;
-    with_lengths(rt, "name length 17", &[4, 7, 17])?;
-    with_arities(rt, "scope length 0", &[2, 0])?;
-    with_arities(rt, "scope length 5", &[2, 5])?;
-    with_counts(rt, "no option", 0, 2)?;
-    with_counts(rt, "25 options", 25, 2)?;
-    with_counts(rt, "49 tables", 3, 49)?;
-    with_row_counts(rt, "1,025 rows", &[4, 1025])?;
-    with_letters(rt, "a name with a blank", b"gatedivider tand")?;
-    with_sizes(rt, "a size more than is named", &[3, 2, 2, 99])
+    let whole = sample();
+    let drafts = [
+        (
+            "size 0",
+            Draft {
+                sizes: &[3, 0, 2],
+                ..whole
+            },
+        ),
+        (
+            "size 33",
+            Draft {
+                sizes: &[3, 33, 2],
+                ..whole
+            },
+        ),
+        (
+            "name length 0",
+            Draft {
+                lengths: &[4, 7, 0],
+                ..whole
+            },
+        ),
+        (
+            "name length 17",
+            Draft {
+                lengths: &[4, 7, 17],
+                ..whole
+            },
+        ),
+        (
+            "scope length 0",
+            Draft {
+                arities: &[2, 0],
+                ..whole
+            },
+        ),
+        (
+            "scope length 5",
+            Draft {
+                arities: &[2, 5],
+                ..whole
+            },
+        ),
+        (
+            "no option",
+            Draft {
+                options: 0,
+                ..whole
+            },
+        ),
+        (
+            "25 options",
+            Draft {
+                options: 25,
+                ..whole
+            },
+        ),
+        (
+            "49 tables",
+            Draft {
+                tables: 49,
+                ..whole
+            },
+        ),
+        (
+            "1,025 rows",
+            Draft {
+                counts: &[4, 1025],
+                ..whole
+            },
+        ),
+        (
+            "a name with a blank",
+            Draft {
+                letters: b"gatedivider tand",
+                ..whole
+            },
+        ),
+        (
+            "a size more than is named",
+            Draft {
+                sizes: &[3, 2, 2, 99],
+                ..whole
+            },
+        ),
+    ];
+    show_all(rt, &drafts)
 }
 
 /// The rows of the largest book: 32 tables of 171 rows, and then 16 of 170.
 fn fill_rows(rows: &mut [Row; 8192]) {
-    for r in 0..8192 {
+    for (r, row) in rows.iter_mut().enumerate() {
         let k = if r < 5472 { r % 171 } else { (r - 5472) % 170 };
-        rows[r] = [0, 0, (k / 32) as u8, (k % 32) as u8];
-    }
-}
-
-fn fill_counts(counts: &mut [u16; 48]) {
-    for t in 0..48 {
-        counts[t] = if t < 32 { 171 } else { 170 };
+        *row = [0, 0, (k / 32) as u8, (k % 32) as u8];
     }
 }
 
@@ -210,9 +243,9 @@ fn show_back<'a>(rt: &HostRuntime, file: &'a [u8], rows: &'a mut [Row]) -> io::R
 /// 24 options of 32 values with names of 16 bytes, and 48 tables of 4 options with 8,192 rows, there and back.
 fn show_largest(rt: &HostRuntime) -> io::Result<()> {
     let mut rows = [[0; 4]; 8192];
-    let mut counts = [0; 48];
+    let mut counts = [170; 48];
     fill_rows(&mut rows);
-    fill_counts(&mut counts);
+    counts[..32].fill(171);
     let largest = Draft {
         options: 24,
         tables: 48,
@@ -237,7 +270,7 @@ fn show_largest(rt: &HostRuntime) -> io::Result<()> {
 
 fn main(rt: HostRuntime) -> io::Result<()> {
     show_sample(&rt)?;
-    show_no_room(&rt)?;
+    show(&rt, "room for 36 bytes", &sample(), &mut [0; 36])?;
     show_short(&rt)?;
     show_ranges(&rt)?;
     show_largest(&rt)

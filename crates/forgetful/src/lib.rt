@@ -9,6 +9,7 @@ use store::Store;
 
 /// A store of at most two boxes. It heeds only every other tell, then forgets the older of two boxes, and changes the order
 /// of its boxes at each look.
+// `heeds` stays a flag: each tell turns it, whatever the places hold. It is true at first, so `new` is no `Default`.
 #[derive(Drop)]
 pub struct ForgetfulStore {
     first: Option<ValueBox>,
@@ -24,16 +25,6 @@ impl ForgetfulStore {
             second: None,
             heeds: true,
         }
-    }
-}
-
-// Whether a place has the box.
-fn has(place: &Option<ValueBox>, sought: &ValueBox) -> bool
-    ensures { Decides result (place.now ≡ Some sought.now) }
-{
-    match place {
-        Some(known) => *known == *sought,
-        None => false,
     }
 }
 
@@ -53,7 +44,8 @@ impl Store for ForgetfulStore {
 
     fn seen(&mut self, sought: &ValueBox) -> bool {
         std::mem::swap(&mut self.first, &mut self.second);
-        has(&self.first, sought) || has(&self.second, sought)
+        let sought = Some(*sought);
+        self.first == sought || self.second == sought
     }
 
     fn tell(&mut self, refuted: &ValueBox) {

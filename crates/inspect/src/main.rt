@@ -2,21 +2,8 @@
 #![tactic(auto)]
 
 use book::{Book, Row, TableIndex};
-use std::fs::File;
+use book_bin::load;
 use std::io;
-use std::io::Read;
-
-/// The bytes of book.bin; none where it cannot be opened or read. One byte more than a book may have is enough to refuse it.
-fn load(rt: &HostRuntime) -> Vec<u8> {
-    let mut bytes = Vec::new(rt.alloc());
-    let Ok(file) = File::open(rt, "book.bin") else {
-        return bytes;
-    };
-    match file.take(32769).read_to_end(&mut bytes) {
-        Ok(_) => bytes,
-        Err(_) => Vec::new(rt.alloc()),
-    }
-}
 
 /// The name of an option, as text.
 fn name<'a>(book: &Book<'a>, option: usize) -> &'a str {
@@ -35,7 +22,7 @@ fn show_options(rt: &HostRuntime, book: &Book) -> io::Result<()> {
 }
 
 fn show_scope(rt: &HostRuntime, book: &Book, table: &TableIndex) -> io::Result<()> {
-    for option in table.scope.iter().take(table.arity) {
+    for option in table.own_scope() {
         let name = name(book, *option as usize);
         print!(rt; " {name}")?;
     }
@@ -43,9 +30,9 @@ fn show_scope(rt: &HostRuntime, book: &Book, table: &TableIndex) -> io::Result<(
 }
 
 fn show_rows(rt: &HostRuntime, book: &Book, table: &TableIndex) -> io::Result<()> {
-    for row in book.rows().iter().skip(table.start).take(table.count) {
+    for row in book.rows_of(table) {
         print!(rt; "   ")?;
-        for value in row.iter().take(table.arity) {
+        for value in table.own_values(row) {
             print!(rt; " {value}")?;
         }
         println!(rt)?;

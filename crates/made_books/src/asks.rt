@@ -1,19 +1,17 @@
 // An ask with work slices of its own.
-ghost use Rattle.std.specs.Prelude.{◌≡◌, sum};
-ghost use Rattle.book.specs.Books.{contents};
-
-use ask::{Answer, Asked, ask};
+use crate::work::WorkPlaces;
+use ask::{Answer, Asked, Work, ask, places_of};
 use book::Book;
-use propagate::{ValueSets, sizes_of};
+use propagate::ValueSets;
 use std::fmt;
 use store::Store;
-use trail::{Branch, Saved, Side};
 
 /// What an ask told: its answer, how many trials it began, and the places of the fit, 255 where nothing was written.
 #[derive(Clone, Copy)]
 pub struct Told {
     pub answer: Answer,
     pub count: u32,
+    // The whole slice that was lent, so that a place behind the fit that was written would show.
     pub fit: [u8; 24],
 }
 
@@ -42,34 +40,20 @@ impl fmt::Display for Told {
     }
 }
 
-/// All sizes together.
-fn all_sizes(book: &Book) -> usize
-    ensures { result ≡ sum (contents book.now).sizes }
-{
-    let sizes = sizes_of(book);
-    let mut total = 0;
-    for size in sizes {
-        total += *size as usize;
-    }
-    total
-}
-
 /// An ask where the slices are long enough for the book.
 fn ask_within<S: Store>(
     book: &Book,
     start: &ValueSets,
     store: &mut S,
     budget: u32,
-    branches: &mut [Branch],
-    trail: &mut [Saved],
-    fit: &mut [u8],
+    work: &mut Work,
 ) -> Option<Asked> {
-    let places = all_sizes(book);
-    let options = sizes_of(book).len();
-    if branches.len() < places || trail.len() < places || fit.len() < options {
+    let places = places_of(book);
+    let options = book.sizes().len();
+    if work.branches.len() < places || work.trail.len() < places || work.fit.len() < options {
         return None;
     }
-    Some(ask(book, start, store, budget, branches, trail, fit))
+    Some(ask(book, start, store, budget, work))
 }
 
 /// What an ask tells, with work slices that are long enough for every book.
@@ -79,29 +63,8 @@ pub fn put_to<S: Store>(
     store: &mut S,
     budget: u32,
 ) -> Option<Told> {
-    let branch = Branch {
-        option: 0,
-        value: 0,
-        side: Side::Left,
-        mark: 0,
-    };
-    let mut branches = [branch; 768];
-    let mut trail = [Saved { option: 0, set: 0 }; 768];
-    let mut fit = [255; 24];
-    let Some(asked) = ask_within(
-        book,
-        start,
-        store,
-        budget,
-        &mut branches,
-        &mut trail,
-        &mut fit,
-    ) else {
-        return None;
-    };
-    Some(Told {
-        answer: asked.answer,
-        count: asked.count,
-        fit,
-    })
+    let mut places = WorkPlaces::<768>::new();
+    let Asked { answer, count } = ask_within(book, start, store, budget, &mut places.lend())?;
+    let fit = places.fit;
+    Some(Told { answer, count, fit })
 }

@@ -1,5 +1,5 @@
 // Fits found by looking at every choice of values.
-use crate::plans::Plan;
+use crate::plans::{Plan, count_by};
 use propagate::ValueSets;
 
 /// What leaves each option some of its values.
@@ -10,15 +10,17 @@ pub trait Limits {
 
 impl Limits for ValueSets {
     fn leaves(&self, option: usize, value: usize) -> bool {
-        (self.sets[option % 24] >> (value % 32)) % 2 == 1
+        match self.sets.get(option) {
+            Some(set) => (*set >> (value % 32)) % 2 == 1,
+            None => false,
+        }
     }
 }
 
 /// Whether the values are a fit of the plan inside the limits.
-pub fn is_fit<L: Limits>(plan: &Plan, limits: &L, values: &[usize; 24]) -> bool {
-    for x in 0..plan.options.min(24) {
-        let value = values[x];
-        if value >= plan.sizes[x] || !limits.leaves(x, value) {
+pub fn is_fit<L: Limits>(plan: &Plan, limits: &L, values: &[u8]) -> bool {
+    for (option, (size, value)) in plan.sizes.iter().zip(values).enumerate() {
+        if value >= size || !limits.leaves(option, *value as usize) {
             return false;
         }
     }
@@ -26,29 +28,19 @@ pub fn is_fit<L: Limits>(plan: &Plan, limits: &L, values: &[usize; 24]) -> bool 
 }
 
 /// The choice of values with this number.
-fn choice(plan: &Plan, number: usize) -> [usize; 24] {
+fn choice(plan: &Plan, number: usize) -> [u8; 24] {
     let mut values = [0; 24];
-    let mut rest = number;
-    for x in 0..plan.options.min(24) {
-        let size = plan.sizes[x];
-        if size > 0 {
-            values[x] = rest % size;
-            rest /= size;
-        }
-    }
+    let options = plan.sizes.len();
+    values[..options].copy_from_slice(&plan.sizes);
+    count_by(&mut values[..options], number);
     values
 }
 
 /// Whether a fit of the plan lies inside the limits.
 pub fn has_fit<L: Limits>(plan: &Plan, limits: &L) -> bool {
     let mut choices = 1usize;
-    for size in plan.sizes.iter().take(plan.options) {
-        choices = choices.wrapping_mul(*size);
+    for size in &plan.sizes {
+        choices = choices.wrapping_mul(*size as usize);
     }
-    for number in 0..choices {
-        if is_fit(plan, limits, &choice(plan, number)) {
-            return true;
-        }
-    }
-    false
+    (0..choices).any(|number| is_fit(plan, limits, &choice(plan, number)))
 }

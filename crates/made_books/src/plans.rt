@@ -1,4 +1,7 @@
 // What a book is to say, before it is a file.
+ghost use Rattle.std.specs.Prelude.{◌≡◌, ◌≤◌, length};
+
+use arrayvec::ArrayVec;
 use std::alloc::{AllocError, Global};
 
 /// Which rows a table allows.
@@ -15,83 +18,136 @@ pub enum Rule {
 }
 
 /// A table on some options, the lowest first.
-#[derive(Clone, Copy)]
+#[derive(Drop)]
 pub struct Table {
-    pub scope: [usize; 3],
-    pub arity: usize,
+    pub scope: ArrayVec<usize, 3>,
     pub rule: Rule,
 }
 
 /// The size of each option, and the tables.
 #[derive(Drop)]
 pub struct Plan {
-    pub sizes: [usize; 24],
-    pub options: usize,
+    pub sizes: ArrayVec<u8, 24>,
     pub tables: Vec<Table>,
 }
 
+/// What stands at an option's place, and 0 where nothing does.
+fn at(numbers: &[u8], option: usize) -> u8 {
+    numbers.get(option).copied().unwrap_or(0)
+}
+
+/// Puts the digits of a number in the places of the sizes that it counts by, the last of which counts the ones.
+pub(crate) fn count_by(sizes: &mut [u8], number: usize) {
+    let mut rest = number;
+    for place in sizes.iter_mut().rev() {
+        let size = *place as usize;
+        if size > 0 {
+            *place = (rest % size) as u8;
+            rest /= size;
+        }
+    }
+}
+
+/// Whether the values have an odd sum.
+fn is_odd(values: &[u8]) -> bool {
+    values.iter().filter(|value| **value % 2 == 1).count() % 2 == 1
+}
+
 impl Table {
-    /// How many rows there are, allowed or not.
-    pub fn rows(&self, sizes: &[usize; 24]) -> usize {
-        let mut count = 1usize;
-        for x in self.scope.iter().take(self.arity) {
-            count = count.wrapping_mul(sizes[*x % 24]);
-        }
-        count
-    }
-
-    /// Puts the values of a row, by its number in rising order, at their options.
-    pub fn lay(&self, sizes: &[usize; 24], row: usize, values: &mut [usize; 24]) {
-        let mut rest = row;
-        for x in self.scope.iter().take(self.arity).rev() {
-            let option = *x % 24;
-            let size = sizes[option];
-            if size > 0 {
-                values[option] = rest % size;
-                rest /= size;
-            }
+    /// A table on these options.
+    pub fn on(scope: &[usize], rule: Rule) -> Table
+        requires { length scope.now ≤ 3 }
+        ensures scope { result.scope.items ≡ scope.now }
+        ensures rule { result.rule ≡ rule }
+    {
+        match ArrayVec::try_from(scope) {
+            Ok(scope) => Table { scope, rule },
+            Err(_) => unreachable!(),
         }
     }
 
-    /// The number of the row that has these values, in rising order.
-    fn number(&self, sizes: &[usize; 24], values: &[usize; 24]) -> usize {
-        let mut number = 0usize;
-        for x in self.scope.iter().take(self.arity) {
-            let option = *x % 24;
-            number = number
-                .wrapping_mul(sizes[option])
-                .wrapping_add(values[option]);
+    /// What stands at the places of the table's options.
+    fn of(&self, numbers: &[u8]) -> ArrayVec<u8, 3> {
+        let mut found = ArrayVec::new();
+        for option in &self.scope {
+            let _ = found.try_push(at(numbers, *option));
         }
-        number
+        found
     }
 
-    /// Whether the values have an odd sum.
-    fn is_odd(&self, values: &[usize; 24]) -> bool {
-        let mut sum = 0usize;
-        for x in self.scope.iter().take(self.arity) {
-            sum = sum.wrapping_add(values[*x % 24]);
+    /// How many rows there are, listed or not.
+    pub fn rows(&self, sizes: &[u8]) -> usize {
+        let sizes = self.of(sizes);
+        sizes.iter().fold(1usize, |count, size| { count.wrapping_mul(*size as usize) })
+    }
+
+    /// The row with this number in rising order.
+    pub fn row(&self, sizes: &[u8], number: usize) -> ArrayVec<u8, 3> {
+        let mut row = self.of(sizes);
+        count_by(&mut row, number);
+        row
+    }
+
+    /// The number of a row, in rising order.
+    fn number(&self, sizes: &[u8], row: &[u8]) -> usize {
+        let sizes = self.of(sizes);
+        sizes.iter().zip(row).fold(0usize, |number, (size, value)| {
+            number
+                .wrapping_mul(*size as usize)
+                .wrapping_add(*value as usize)
+        })
+    }
+
+    /// Whether the table lists the row.
+    pub fn lists(&self, sizes: &[u8], row: &[u8]) -> bool {
+        match self.rule {
+            Rule::Different => row.get(0) != row.get(1),
+            Rule::Even => !is_odd(row),
+            Rule::Odd => is_odd(row),
+            Rule::Rows(rows) => (rows >> (self.number(sizes, row) % 64)) % 2 == 1,
         }
-        sum % 2 == 1
     }
 
     /// Whether the table allows the values at its options.
-    pub fn allows(&self, sizes: &[usize; 24], values: &[usize; 24]) -> bool {
-        match self.rule {
-            Rule::Different => values[self.scope[0] % 24] != values[self.scope[1] % 24],
-            Rule::Even => !self.is_odd(values),
-            Rule::Odd => self.is_odd(values),
-            Rule::Rows(rows) => (rows >> (self.number(sizes, values) % 64)) % 2 == 1,
+    pub fn allows(&self, sizes: &[u8], values: &[u8]) -> bool {
+        self.lists(sizes, &self.of(values))
+    }
+
+    /// The rows that the table lists, in rising order.
+    pub fn listed(&self, heap: Global, sizes: &[u8]) -> Result<Vec<ArrayVec<u8, 3>>, AllocError> {
+        let mut listed = Vec::new(heap);
+        for number in 0..self.rows(sizes) {
+            let row = self.row(sizes, number);
+            if self.lists(sizes, &row) {
+                listed.push(row)?;
+            }
         }
+        Ok(listed)
     }
 }
 
 impl Plan {
     /// So many options of one size, and no table yet.
     pub fn new(heap: Global, options: usize, size: usize) -> Plan {
+        let mut sizes = ArrayVec::from([size.min(255) as u8; 24]);
+        sizes.truncate(options);
         Plan {
-            sizes: [size; 24],
-            options: options.min(24),
+            sizes,
             tables: Vec::new(heap),
+        }
+    }
+
+    /// Options of these sizes, and no table yet.
+    pub fn of(heap: Global, sizes: &[u8]) -> Plan
+        requires { length sizes.now ≤ 24 }
+        ensures { result.sizes.items ≡ sizes.now }
+    {
+        match ArrayVec::try_from(sizes) {
+            Ok(sizes) => Plan {
+                sizes,
+                tables: Vec::new(heap),
+            },
+            Err(_) => unreachable!(),
         }
     }
 
@@ -102,12 +158,9 @@ impl Plan {
     }
 
     /// Whether every table allows the values.
-    pub fn fits(&self, values: &[usize; 24]) -> bool {
-        for table in &self.tables {
-            if !table.allows(&self.sizes, values) {
-                return false;
-            }
-        }
-        true
+    pub fn fits(&self, values: &[u8]) -> bool {
+        self.tables
+            .iter()
+            .all(|table| table.allows(&self.sizes, values))
     }
 }

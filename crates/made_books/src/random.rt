@@ -1,20 +1,17 @@
 // Small plans at random.
 use crate::dice::Dice;
 use crate::plans::{Plan, Rule, Table};
-use crate::shapes::pair;
+use arrayvec::ArrayVec;
 use std::alloc::{AllocError, Global};
 
 /// Some of the options in rising order, and about half of their rows, or three of four.
 fn random_table(dice: &mut Dice, options: usize) -> Table {
     let arity = dice.below(options.min(3)).wrapping_add(1);
-    let mut scope = [0; 3];
-    let mut chosen = 0usize;
-    for x in 0..options {
-        let wanted = arity.saturating_sub(chosen);
-        let take = dice.below(options.saturating_sub(x)) < wanted;
-        if take && chosen < 3 {
-            scope[chosen] = x;
-            chosen += 1;
+    let mut scope = ArrayVec::new();
+    for option in 0..options {
+        let wanted = arity.saturating_sub(scope.len());
+        if dice.below(options.saturating_sub(option)) < wanted && !scope.is_full() {
+            scope.push(option);
         }
     }
     let mut rows = dice.word();
@@ -23,22 +20,21 @@ fn random_table(dice: &mut Dice, options: usize) -> Table {
     }
     Table {
         scope,
-        arity,
         rule: Rule::Rows(rows),
     }
 }
 
 /// 2 to 4 options of 1 to 3 values, and up to 4 tables on up to 3 options each.
 pub fn small_plan(heap: Global, dice: &mut Dice) -> Result<Plan, AllocError> {
-    let options = dice.below(3).wrapping_add(2);
-    let mut plan = Plan::new(heap, options, 1);
-    for x in 0..24 {
-        plan.sizes[x] = dice.below(3).wrapping_add(1);
+    let options = dice.below(3) + 2;
+    let mut sizes = [0; 24];
+    for size in sizes.iter_mut() {
+        *size = dice.below(3) as u8 + 1;
     }
+    let mut plan = Plan::of(heap, &sizes[..options]);
     let tables = dice.below(5);
     for _ in 0..tables {
-        let table = random_table(dice, options);
-        plan.add(table)?;
+        plan.add(random_table(dice, options))?;
     }
     Ok(plan)
 }
@@ -54,7 +50,7 @@ pub fn larger_plan(heap: Global, dice: &mut Dice) -> Result<Plan, AllocError> {
             .wrapping_add(first)
             .wrapping_add(1);
         let rows = dice.word() | (dice.word() & dice.word());
-        plan.add(pair(first, second, Rule::Rows(rows)))?;
+        plan.add(Table::on(&[first, second], Rule::Rows(rows)))?;
     }
     Ok(plan)
 }
@@ -63,22 +59,13 @@ pub fn larger_plan(heap: Global, dice: &mut Dice) -> Result<Plan, AllocError> {
 fn crowd(heap: Global, dice: &mut Dice) -> Result<Plan, AllocError> {
     let mut plan = Plan::new(heap, 5, 4);
     for x in 0..5usize {
-        for y in 0..5usize {
-            if x < y && dice.below(8) > 0 {
-                plan.add(pair(x, y, Rule::Different))?;
+        for y in x + 1..5 {
+            if dice.below(8) > 0 {
+                plan.add(Table::on(&[x, y], Rule::Different))?;
             }
         }
     }
     Ok(plan)
-}
-
-/// A table on one option, without a row.
-fn barren(dice: &mut Dice, options: usize) -> Table {
-    Table {
-        scope: [dice.below(options), 0, 0],
-        arity: 1,
-        rule: Rule::Rows(0),
-    }
 }
 
 /// A plan of one of three shapes, now and then with a table that allows nothing.
@@ -89,8 +76,8 @@ pub fn random_plan(heap: Global, dice: &mut Dice) -> Result<Plan, AllocError> {
         _ => small_plan(heap, dice)?,
     };
     if dice.below(20) == 0 {
-        let table = barren(dice, plan.options);
-        plan.add(table)?;
+        let option = dice.below(plan.sizes.len());
+        plan.add(Table::on(&[option], Rule::Rows(0)))?;
     }
     Ok(plan)
 }

@@ -1,6 +1,7 @@
-// Asks that are shown.
+// Books, asks and value sets that are shown.
 use crate::asks::put_to;
-use book::Book;
+use crate::sets::ShownSets;
+use book::{Book, Row};
 use propagate::ValueSets;
 use std::io;
 use store::Store;
@@ -20,4 +21,25 @@ pub fn show_ask<S: Store>(
         Some(told) => println!(rt; "  {what}: {told}"),
         None => println!(rt; "  {what}: NOT ASKED"),
     }
+}
+
+/// Shows something of the book that a file holds.
+pub fn show_book<F: FnOnce(&Book) -> io::Result<()>>(
+    rt: &HostRuntime,
+    file: &[u8],
+    rows: &mut [Row],
+    show: F,
+) -> io::Result<()>
+    requires { F.IsAlwaysCallable show }
+{
+    match book::read(file, rows) {
+        Ok(index) => show(&Book::open(file, rows, index)),
+        Err(_) => println!(rt; "  REFUSED"),
+    }
+}
+
+/// Prints a line with the sets of some options.
+pub fn show_sets(rt: &HostRuntime, what: &str, sets: &[u32]) -> io::Result<()> {
+    let shown = ShownSets(sets);
+    println!(rt; "  {what}:{shown}")
 }

@@ -1,11 +1,29 @@
 // Drafts for the programs that try the writer.
 #![tactic(auto)]
 
+ghost use Rattle.std.specs.Prelude.{◌≡◌, length};
+
+use book::Fault;
 use draft::Draft;
+use std::fmt;
+
+/// A fault by the number of its question, and its bit.
+#[derive(Clone, Copy)]
+pub struct Numbered(pub Fault);
+
+impl fmt::Display for Numbered {
+    fn fmt<W: fmt::Write>(&self, f: &mut fmt::Formatter<W>) -> fmt::Result {
+        let number = self.0.question.number();
+        let bit = self.0.bit;
+        write!(f, "{number} at bit {bit}")
+    }
+}
 
 /// The sample book: a gate of three values, a divider and a stand of two each; one table lists which gates go with which
 /// dividers, the other which dividers with which stands.
-pub fn sample() -> Draft<'static> {
+pub fn sample() -> Draft<'static>
+    ensures { length result.rows.now ≡ 7 }
+{
     Draft {
         options: 3,
         tables: 2,

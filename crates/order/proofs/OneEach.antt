@@ -2,15 +2,14 @@
 use Rattle.std.proofs.Common.{◌≡◌, ℕ, zero, suc, ◌%◌, ◌^◌, ◌<◌, ◌≤◌, List, [], ◌∷◌, length, get_or, take, sym, ap, ◌∙◌, subst, mod-eq_of_lt, arith}
 use lib.Pow.{pow-lt}
 use Rattle.std.specs.List.{AllByRecursion}
-use Rattle.std.proofs.lemmas.List.{get_or-take, length-take-le}
-use Rattle.grammar.specs.Contents.{Table, Contents, Listed, on_scope, ValidTable, Valid}
+use Rattle.std.proofs.lemmas.List.{length-take-le}
+use Rattle.grammar.specs.Contents.{Table, Contents, Fit, Listed, on_scope, ValidTable, Valid}
 use Rattle.values.specs.Members.{In}
 use Rattle.values.proofs.Digits.{in_one}
 use Rattle.propagate.specs.Sets.{Sets, sets_of}
-use Rattle.propagate.proofs.Books.{size_most}
 use Rattle.propagate.proofs.Fits.{live_on, single_row}
 use Rattle.reduce.specs.Universal.{Universal, UniversalAt}
-use Rattle.sheet.specs.Starts.{Standing, Starts, Leaves}
+use Rattle.sheet.specs.Starts.{Standing, Starts, Leaves, MeetsAll}
 use Rattle.order.specs.Issues.{Issues}
 
 abbrev no_table : Table
@@ -35,39 +34,27 @@ module _ (sizes : List ℕ) (sets : Sets) (values : List ℕ) (one : (x : ℕ) �
   listed_all (t ∷ ts) ok at (suc i) l = listed_all ts ok.1 at.1 i (omega arith)
 
 -- the values in the first places of a slice, against the sets that standing decisions leave
-module _ (c : Contents) (valid : Valid c) (stands : Standing) (start : List ℕ) (starts : Starts c stands start) (slice : List ℕ) (room : length c.sizes ≤ length slice) where
-  abbrev values : List ℕ
-  values = take (length c.sizes) slice
+module _ (c : Contents) (valid : Valid c) (stands : Standing) (start : List ℕ) (starts : Starts c stands start) (slice : List ℕ) (room : length c.sizes ≤ length slice) (values : List ℕ) (cut : values ≡ take (length c.sizes) slice) where
+  each : length values ≡ length c.sizes
+  each = ap length cut ∙ length-take-le (length c.sizes) slice room
 
-  abbrev pub Inside : Type 0
-  Inside = (x : ℕ) → x < length c.sizes → (get_or slice x 0 < 32) × In (get_or start x 0) (get_or slice x 0)
-
-  is_at : (x : ℕ) → x < length c.sizes → get_or values x 0 ≡ get_or slice x 0
-  is_at x l = get_or-take (length c.sizes) slice x 0 l
-
-  pub issues_inside : Issues c stands slice → Inside
-  issues_inside s x l =
-      let v = is_at x l in
-      let below = s.fit.within x l in
-      (omega (arith, (size_most c valid x l).1, below, v), subst (In (get_or start x 0)) v (starts.whole x (get_or values x 0) l below (s.meets x l)))
-
-  module _ (inside : Inside) where
+  module _ (inside : (x : ℕ) → x < length values → (get_or values x 0 < 32) × In (get_or start x 0) (get_or values x 0)) where
     left : (x : ℕ) → x < length c.sizes → (get_or values x 0 < get_or c.sizes x 0) × Leaves stands x (get_or values x 0)
-    left x l = starts.sound x (get_or values x 0) l (subst (In (get_or start x 0)) (sym (is_at x l)) (inside x l).1)
+    left x l = starts.sound x (get_or values x 0) l (inside x (omega (arith, each))).1
 
-    module _ (array : List ℕ) (single : (x : ℕ) → x < length c.sizes → get_or array x 0 ≡ 2 ^ get_or slice x 0) where
+    module _ (array : List ℕ) (single : (x : ℕ) → x < length values → get_or array x 0 ≡ 2 ^ get_or values x 0) where
       one : (x : ℕ) → x < length c.sizes → sets_of c array x ≡ 2 ^ get_or values x 0
-      one x l = ap (λ s. s % 2 ^ get_or c.sizes x 0) (single x l ∙ ap (λ v. 2 ^ v) (sym (is_at x l))) ∙ mod-eq_of_lt (pow-lt (left x l).0)
+      one x l = ap (λ s. s % 2 ^ get_or c.sizes x 0) (single x (omega (arith, each))) ∙ mod-eq_of_lt (pow-lt (left x l).0)
 
       pub issues_if : ((i : ℕ) → i < length c.tables → UniversalAt c (sets_of c array) i) → Issues c stands slice
       issues_if u = record {
-        fit = record {
-          each = length-take-le (length c.sizes) slice room;
+        fit = subst (Fit c) cut (record {
+          each = each;
           within = λ x l. (left x l).0;
           listed = all_listed c.sizes (sets_of c array) values one c.tables valid.tables (λ i l. (u i l).1);
-        };
-        meets = λ x l. (left x l).1;
+        });
+        meets = subst (MeetsAll c stands) cut (λ x l. (left x l).1);
       }
 
       pub if_issues : Issues c stands slice → (i : ℕ) → i < length c.tables → UniversalAt c (sets_of c array) i
-      if_issues s i l = (l, listed_all c.sizes (sets_of c array) values one c.tables valid.tables s.fit.listed i l)
+      if_issues s i l = (l, listed_all c.sizes (sets_of c array) values one c.tables valid.tables (subst (Fit c) (sym cut) s.fit).listed i l)

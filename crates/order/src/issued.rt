@@ -7,6 +7,7 @@ use sheet::Sheet;
 #[derive(Drop)]
 pub struct Order {
     pub(crate) sheet: Sheet,
+    // An array and how many of it count: an order is a moved value of plain numbers.
     pub(crate) options: usize,
     pub(crate) values: [u8; 24],
     ghost few: { options ≤ 24 },
@@ -18,6 +19,6 @@ impl Order {
     pub fn values(&self) -> &[u8]
         ensures { result.now ≡ take self.now.options self.now.values }
     {
-        &self.values[0..self.options]
+        &self.values[..self.options]
     }
 }

@@ -7,21 +7,20 @@ ghost use Rattle.order.specs.Issues.{Issues, Issuable};
 use crate::issued::Order;
 use crate::singles::{all_universal, inside, singles};
 use book::Book;
-use propagate::sizes_of;
 use questions::Question;
-use sheet::Sheet;
+use sheet::{Person, Sheet};
 
-/// Whether the values are a fit of the book that meets every standing decision.
+/// Whether the first values are a fit of the book that meets every standing decision.
 fn fits(sheet: &Sheet, book: &Book, values: &[u8]) -> bool
     requires { length (contents book.now).sizes ≤ length values.now }
     ensures { Decides result (Issues (contents book.now) (stands sheet.now.sets) values.now) }
 {
     let start = sheet.starting_sets(book);
-    if !inside(book, &start, values) {
+    let given = &values[..book.sizes().len()];
+    if !inside(&start, given) {
         return false;
     }
-    let given = singles(book, values);
-    all_universal(book, &given)
+    all_universal(book, &singles(given))
 }
 
 /// Asks whether a person may issue the sheet with the values in the first places of a slice: it is one of the two people, the slice
@@ -29,30 +28,14 @@ fn fits(sheet: &Sheet, book: &Book, values: &[u8]) -> bool
 pub fn issuable(sheet: &Sheet, book: &Book, person: usize, fit: &[u8]) -> Result<(), Question>
     ensures { Issuable (contents book.now) (stands sheet.now.sets) person fit.now result }
 {
-    if person < 1 || person > 2 {
-        return Err(Question::Person);
-    }
-    if fit.len() < sizes_of(book).len() {
+    Person::try_from(person)?;
+    if fit.len() < book.sizes().len() {
         return Err(Question::FitRoom);
     }
     if !fits(sheet, book, fit) {
         return Err(Question::Fit);
     }
     Ok(())
-}
-
-/// The first places of a slice, of which there are so many.
-fn first_places(fit: &[u8], options: usize) -> [u8; 24]
-    requires few { options ≤ 24 }
-    requires room { options ≤ length fit.now }
-    ensures value { take options result ≡ take options fit.now }
-    ensures long { length result ≡ 24 }
-{
-    let mut values = [0; 24];
-    for x in 0..options {
-        values[x] = fit[x];
-    }
-    values
 }
 
 /// Turns the open sheet into an order with these values, after `issuable` has answered yes to them; it cannot refuse.
@@ -62,8 +45,9 @@ pub fn issue(sheet: Sheet, book: &Book, fit: &[u8]) -> Order
     ensures options { result.options ≡ length (contents book.now).sizes }
     ensures values { take result.options result.values ≡ take result.options fit.now }
 {
-    let options = sizes_of(book).len();
-    let values = first_places(fit, options);
+    let options = book.sizes().len();
+    let mut values = [0; 24];
+    values[..options].copy_from_slice(&fit[..options]);
     Order {
         sheet,
         options,

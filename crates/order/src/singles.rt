@@ -6,35 +6,30 @@ ghost use Rattle.propagate.specs.Sets.{sets_of};
 ghost use Rattle.reduce.specs.Universal.{UniversalAt};
 
 use book::Book;
-use propagate::{ValueSets, sizes_of};
+use propagate::ValueSets;
 use reduce::universal;
 use values::{has, only};
 
-/// Whether each option is given a value of its set.
-pub(crate) fn inside(book: &Book, sets: &ValueSets, values: &[u8]) -> bool
-    requires room { length (contents book.now).sizes ≤ length values.now }
-    ensures { Decides result ((x : ℕ) → x < length (contents book.now).sizes → (slice_index values.now x < 32) × In (slice_index sets.now.sets x) (slice_index values.now x)) }
+/// Whether each value is one of its option's set.
+pub(crate) fn inside(sets: &ValueSets, values: &[u8]) -> bool
+    requires few { length values.now ≤ 24 }
+    ensures { Decides result ((x : ℕ) → x < length values.now → (slice_index values.now x < 32) × In (slice_index sets.now.sets x) (slice_index values.now x)) }
 {
-    let sizes = sizes_of(book);
-    for x in 0..sizes.len() {
-        let value = values[x];
-        if value >= 32 || !has(sets.sets[x], value) {
-            return false;
-        }
-    }
-    true
+    values
+        .iter()
+        .zip(&sets.sets)
+        .all(|(&value, &set)| value < 32 && has(set, value))
 }
 
-/// The sets that have, for each option of the book, its value alone.
-pub(crate) fn singles(book: &Book, values: &[u8]) -> ValueSets
-    requires room { length (contents book.now).sizes ≤ length values.now }
-    requires small { (x : ℕ) → x < length (contents book.now).sizes → slice_index values.now x < 32 }
-    ensures { (x : ℕ) → x < length (contents book.now).sizes → slice_index result.sets x ≡ 2 ^ slice_index values.now x }
+/// The sets that have, for each option, its value alone.
+pub(crate) fn singles(values: &[u8]) -> ValueSets
+    requires few { length values.now ≤ 24 }
+    requires small { (x : ℕ) → x < length values.now → slice_index values.now x < 32 }
+    ensures { (x : ℕ) → x < length values.now → slice_index result.sets x ≡ 2 ^ slice_index values.now x }
 {
-    let sizes = sizes_of(book);
     let mut sets = [0; 24];
-    for x in 0..sizes.len() {
-        sets[x] = only(values[x]);
+    for (x, value) in values.iter().enumerate() {
+        sets[x] = only(*value);
     }
     ValueSets { sets }
 }

@@ -5,11 +5,8 @@ ghost use Rattle.trials.specs.Picks.{Picked};
 ghost use Rattle.pick.specs.Fewest.{AllFew, Fewest};
 
 use book::Book;
-use propagate::{ValueSets, sizes_of};
+use propagate::ValueSets;
 use values::{lowest, size};
-
-// More values than any set has.
-const BEYOND: usize = 33;
 
 /// Of the first options, the one with the fewest values among those with two or more, and the lowest number of equals.
 fn fewest(sets: &[u32; 24], options: usize) -> Option<usize>
@@ -17,15 +14,13 @@ fn fewest(sets: &[u32; 24], options: usize) -> Option<usize>
     ensures { MatchOption result (AllFew options sets.now) (λ x. Fewest options sets.now x) }
 {
     let mut best = None;
-    let mut least = BEYOND;
-    for x in 0..options {
-        let many = size(sets[x]);
-        if many >= 2 && many < least {
-            best = Some(x);
-            least = many;
+    for (x, set) in sets[..options].iter().enumerate() {
+        let many = size(*set);
+        if many >= 2 && best.is_none_or(|(_, least)| many < least) {
+            best = Some((x, many));
         }
     }
-    best
+    best.map(|(x, _)| x)
 }
 
 /// The option with the fewest values among those with two or more, ties to the lowest number, and its lowest value.
@@ -33,9 +28,6 @@ fn fewest(sets: &[u32; 24], options: usize) -> Option<usize>
 pub fn pick(book: &Book, sets: &ValueSets) -> Option<(usize, u8)>
     ensures { MatchOption result (AllFew (length (contents book.now).sizes) sets.now.sets) (λ p. Picked (contents book.now) sets.now.sets p.0 p.1) }
 {
-    let options = sizes_of(book).len();
-    let Some(option) = fewest(&sets.sets, options) else {
-        return None;
-    };
+    let option = fewest(&sets.sets, book.sizes().len())?;
     Some((option, lowest(sets.sets[option])))
 }

@@ -1,22 +1,17 @@
 -- What a book's tables are known to be.
 use Rattle.std.proofs.Common.{◌≡◌, ℕ, suc, ◌<◌, ◌≤◌, List, [], ◌∷◌, map, length, get_or, take, drop, sym, refl, ap, ◌∙◌, subst, ap₂, arith, length-take}
-use Rattle.std.specs.List.{ContainsAt as Has, AllByRecursion}
+use Rattle.std.specs.List.{All, ContainsAt as Has, AllByRecursion}
+use Rattle.std.proofs.lemmas.Grind.{get_or_default_zero}
 use Rattle.std.proofs.lemmas.List.{get_or-map, get_or-take, length-map}
 use Rattle.std.proofs.ByRecursion.{All-get_or, has_get_or}
-use Rattle.grammar.specs.Contents.{Table, Contents, ValidTable, Valid}
+use Rattle.grammar.specs.Contents.{Table, ValidTable}
 use Rattle.grammar.specs.Layout.{table_of}
 use Rattle.book.specs.Books.{contents, rows_at, tables_at}
 use Rattle.grammar.specs.declared.index.TableIndex.{TableIndex}
 use Rattle.book.specs.declared.book.Book.{Book}
-use Rattle.grammar.proofs.Validity.{valid_out}
+use Rattle.book.proofs.Sizes.{valid, size_most}
 use Rattle.propagate.specs.Steps.{Readable, table_from}
 use Rattle.grammar.proofs.Windows.{take_min}
-
-pub valid : (b : Book) → Valid (contents b)
-valid b = valid_out (contents b) b.valid
-
-pub size_most : (c : Contents) → Valid c → (x : ℕ) → x < length c.sizes → (1 ≤ get_or c.sizes x 0) × (get_or c.sizes x 0 ≤ 32)
-size_most c ok x l = All-get_or (λ s. (1 ≤ s) × (s ≤ 32)) c.sizes x 0 l ok.sized
 
 abbrev pub table_at : Book → TableIndex → Table
 table_at b t = table_of (rows_at b) t
@@ -69,6 +64,10 @@ module _ (b : Book) (t : TableIndex) (one : Has (tables_at b) t) where
 
   pub scope_known : (scope : List ℕ) → scope ≡ take t.arity t.scope → (j : ℕ) → j < length scope → get_or scope j 0 < length (contents b).sizes
   scope_known scope e = subst (λ s. (j : ℕ) → j < length s → get_or s j 0 < length (contents b).sizes) (sym e) table_valid.known
+
+  -- no option of it is numbered n or more, where n is as much as a book may have
+  pub scope_under : (scope : List ℕ) → scope ≡ take t.arity t.scope → (n : ℕ) → 24 ≤ n → All (λ x. x < n) scope
+  scope_under scope e n most k d l = omega (arith, get_or_default_zero scope k d l, scope_known scope e k l, (valid b).few)
 
 -- what stands past the end of a list of tables
 abbrev pub blank : TableIndex

@@ -1,7 +1,7 @@
 -- Live rows, place by place.
-use Rattle.std.proofs.Common.{◌≡◌, ℕ, suc, ◌<◌, ◌≤◌, List, [], ◌∷◌, length, get_or, take, Decides, sym, refl, subst, arith}
-use Rattle.std.specs.List.{AllZip}
-use Rattle.std.proofs.lemmas.List.{get_or-take, length-take-le}
+use Rattle.std.proofs.Common.{◌≡◌, ℕ, suc, ◌<◌, Bool, true, false, List, [], ◌∷◌, length, get_or, Decides, MatchBool, sym, refl, ap, ◌∙◌, subst, arith}
+use Rattle.std.specs.List.{AllZip, All, AllWithin, HoldsAt, zip}
+use Rattle.std.proofs.lemmas.Slice.Zip.{get_or-zip, length-zip}
 use Rattle.std.proofs.lemmas.List.Elements.{AllZip-get_or}
 use Rattle.std.proofs.lemmas.Bool.{false≢true}
 use Rattle.std.proofs.lemmas.Bool.Decides.{Decides-and, Decides-eqb}
@@ -15,15 +15,35 @@ each_from_get_d R [] (y ∷ ys) e h = omega arith
 each_from_get_d R (x ∷ xs) [] e h = omega arith
 each_from_get_d R (x ∷ xs) (y ∷ ys) e h = (h 0 (omega arith), each_from_get_d R xs ys (omega arith) (λ k l. h (suc k) (omega arith)))
 
-module _ (sets : Sets) (scope row : List ℕ) (long : length scope ≤ length row) where
-  pub live_if : ((j : ℕ) → j < length scope → In (sets (get_or scope j 0)) (get_or row j 0)) → Live sets scope (take (length scope) row)
-  live_if h =
-      each_from_get_d (λ x v. In (sets x) v) scope (take (length scope) row) (sym (length-take-le (length scope) row long))
-      (λ j l. subst (In (sets (get_or scope j 0))) (sym (get_or-take (length scope) row j 0 l)) (h j l))
+-- a pair of the scope and the row, as they are gone over side by side: its value is in its option's set, or not
+abbrev pub GoesOn : Sets → ℕ × ℕ → Type 0
+GoesOn sets p = Decides true (In (sets p.0) p.1)
 
-  pub if_live : Live sets scope (take (length scope) row) → (j : ℕ) → j < length scope → In (sets (get_or scope j 0)) (get_or row j 0)
-  if_live h j l =
-      subst (In (sets (get_or scope j 0))) (get_or-take (length scope) row j 0 l) (AllZip-get_or (λ x v. In (sets x) v) scope (take (length scope) row) j 0 0 h l)
+abbrev pub Stops : Sets → ℕ × ℕ → Type 0
+Stops sets p = Decides false (In (sets p.0) p.1)
+
+module _ (scope row : List ℕ) (long : length row ≡ length scope) where
+  pair_at : (k : ℕ) (d : ℕ × ℕ) → k < length (zip scope row) → get_or (zip scope row) k d ≡ (get_or scope k d.0, get_or row k d.1)
+  pair_at k d l = get_or-zip scope row k d (omega (arith, length-zip scope row)) (omega (arith, length-zip scope row))
+
+  pub live_decided : (sets : Sets) (r : Bool) → MatchBool r (AllWithin (GoesOn sets) (zip scope row) 0 (length (zip scope row))) ((k : ℕ) × (k < length (zip scope row)) × HoldsAt (Stops sets) (zip scope row) k) → Decides r (Live sets scope row)
+  live_decided sets true h = (
+    λ _. each_from_get_d (λ x v. In (sets x) v) scope row (sym long) (λ k l.
+        let in-zip : k < length (zip scope row) = omega (arith, length-zip scope row, long) in
+        (subst (GoesOn sets) (pair_at k (0, 0) in-zip) (h k (0, 0) (omega arith) in-zip)).0 refl),
+    λ _. refl,
+  )
+  live_decided sets false (k, l, h) = (
+    λ e. absurd (false≢true e),
+    λ alive. absurd (false≢true ((subst (Stops sets) (pair_at k (0, 0) l) (h (0, 0))).1 (AllZip-get_or (λ x v. In (sets x) v) scope row k 0 0 alive (omega (arith, length-zip scope row))))),
+  )
+
+  -- what holds of each option of the scope, and of each value of the row, holds of a pair
+  pub firsts_at : (P : ℕ → Type 0) (k : ℕ) (p : ℕ × ℕ) → k < length (zip scope row) → p ≡ get_or (zip scope row) k p → All P scope → P p.0
+  firsts_at P k p l e all = subst P (sym (ap (λ (q : ℕ × ℕ). q.0) (e ∙ pair_at k p l))) (all k p.0 (omega (arith, length-zip scope row)))
+
+  pub seconds_at : (P : ℕ → Type 0) (k : ℕ) (p : ℕ × ℕ) → k < length (zip scope row) → p ≡ get_or (zip scope row) k p → All P row → P p.1
+  seconds_at P k p l e all = subst P (sym (ap (λ (q : ℕ × ℕ). q.1) (e ∙ pair_at k p l))) (all k p.1 (omega (arith, length-zip scope row)))
 
 pub is_live_decides : (sets : Sets) (scope row : List ℕ) → Decides (is_live sets scope row) (Live sets scope row)
 is_live_decides sets [] [] = (λ _. tt, λ _. refl)

@@ -5,7 +5,6 @@ ghost use Rattle.propagate.specs.Sets.{placed, sets_of};
 ghost use Rattle.propagate.specs.Steps.{Trimmed, Reached};
 ghost use Rattle.propagate.specs.Propagation.{LeavesNone, Ends, Settled};
 
-use crate::layout::sizes_of;
 use crate::outcome::Outcome;
 use crate::sets::ValueSets;
 use crate::tables::round;
@@ -16,9 +15,8 @@ use values::full;
 pub fn trim(book: &Book, sets: &mut [u32; 24])
     ensures { Trimmed (contents book.now) sets.old sets.new }
 {
-    let sizes = sizes_of(book);
-    for x in 0..sizes.len() {
-        sets[x] &= full(sizes[x]);
+    for (x, size) in book.sizes().iter().enumerate() {
+        sets[x] &= full(*size);
     }
 }
 
@@ -27,12 +25,7 @@ fn has_empty(sets: &[u32; 24], options: usize) -> bool
     requires { options ≤ 24 }
     ensures { Decides result ((x : ℕ) × (x < options) × (slice_index sets.now x ≡ 0)) }
 {
-    for x in 0..options {
-        if sets[x] == 0 {
-            return true;
-        }
-    }
-    false
+    sets[..options].contains(&0)
 }
 
 /// Goes on until every value has support in every table, or stops with false where an option has no value left.
@@ -40,7 +33,7 @@ fn close(book: &Book, sets: &mut [u32; 24], pending: u32) -> bool
     requires { Settled (contents book.now).tables (placed sets.old) pending }
     ensures { MatchBool result (Reached (contents book.now) sets.old sets.new) (LeavesNone (contents book.now) (placed sets.old)) }
 {
-    let options = sizes_of(book).len();
+    let options = book.sizes().len();
     let mut left = pending;
     'sweep: while left != 0 {
         left = round(book, sets, left);

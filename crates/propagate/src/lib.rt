@@ -3,7 +3,6 @@
 
 mod fixpoint;
 mod laws;
-mod layout;
 mod outcome;
 mod rows;
 mod sets;
@@ -14,7 +13,6 @@ pub use laws::{
     emptied_where_a_largest_set_is_empty, propagation_ends_one_way, propagation_loses_no_fit,
     supported_single_values_are_a_fit,
 };
-pub use layout::{rows_of, scope_of, sizes_of};
 pub use outcome::Outcome;
 pub use rows::{Supported, support};
 pub use sets::ValueSets;

@@ -1,147 +1,183 @@
 // The definitions read directly: every combination and every family of sets is gone through.
-use crate::model::{Model, Table, value};
+use arrayvec::ArrayVec;
+use made_books::{Plan, Table};
+use std::alloc::{AllocError, Global};
+
+/// The rows of a table, each with a value for each option of its scope.
+type Rows = Vec<ArrayVec<u8, 3>>;
+
+/// A table as the definitions read it: its options, the rows that it lists, and all others that their sizes allow.
+#[derive(Drop)]
+struct Listing {
+    scope: ArrayVec<usize, 3>,
+    listed: Rows,
+    others: Rows,
+}
+
+/// A book as the definitions read it.
+#[derive(Drop)]
+pub struct Model {
+    pub sizes: ArrayVec<u8, 24>,
+    tables: Vec<Listing>,
+}
+
+/// Whether the set has the value.
+fn has(set: u32, value: u8) -> bool {
+    (set >> (value % 32)) % 2 == 1
+}
 
 /// Whether the option's set has the value.
-fn member(sets: &[u32; 24], option: usize, value: usize) -> bool {
-    (sets[option % 24] >> (value % 32)) % 2 == 1
-}
-
-/// The sets without options and values that the book lacks.
-pub fn trimmed(model: &Model, sets: &[u32; 24]) -> [u32; 24] {
-    let mut kept = [0u32; 24];
-    for option in 0..24usize {
-        if option < model.options {
-            let all = (1u32 << (model.size(option) % 32)).wrapping_sub(1);
-            kept[option] = sets[option] & all;
-        }
+fn member(sets: &[u32], option: usize, value: u8) -> bool {
+    match sets.get(option) {
+        Some(set) => has(*set, value),
+        None => false,
     }
-    kept
 }
 
-/// Whether each value of the row is in its option's set.
-fn live(table: &Table, row: usize, sets: &[u32; 24]) -> bool {
-    for place in 0..table.arity {
-        if !member(sets, table.option(place), value(row, place)) {
-            return false;
+impl Listing {
+    fn of(heap: Global, table: Table, sizes: &[u8]) -> Result<Listing, AllocError> {
+        let mut listed = Vec::new(heap);
+        let mut others = Vec::new(heap);
+        for number in 0..table.rows(sizes) {
+            let row = table.row(sizes, number);
+            if table.lists(sizes, &row) {
+                listed.push(row)?;
+            } else {
+                others.push(row)?;
+            }
         }
+        let Table { scope, rule: _ } = table;
+        Ok(Listing {
+            scope,
+            listed,
+            others,
+        })
     }
-    true
-}
 
-/// Whether a listed live row holds the value at the place.
-fn supported(table: &Table, sets: &[u32; 24], place: usize, held: usize) -> bool {
-    for row in 0..64usize {
-        if table.lists(row) && value(row, place) == held && live(table, row, sets) {
-            return true;
-        }
+    /// Whether each value of the row is in its option's set.
+    fn is_live(&self, row: &[u8], sets: &[u32]) -> bool {
+        self.scope
+            .iter()
+            .zip(row)
+            .all(|(option, value)| member(sets, *option, *value))
     }
-    false
-}
 
-/// Whether each value of each option of the scope has support in the table.
-fn upheld(table: &Table, sets: &[u32; 24]) -> bool {
-    for place in 0..table.arity {
-        for held in 0..4usize {
-            if member(sets, table.option(place), held) && !supported(table, sets, place, held) {
+    /// Whether a listed live row holds the value at the place.
+    fn supports(&self, sets: &[u32], place: usize, held: u8) -> bool {
+        self.listed.iter().any(|row| row.get(place) == Some(&held) && self.is_live(row, sets))
+    }
+
+    /// Whether each value of each option of the scope has support in the table.
+    fn is_upheld(&self, sets: &[u32]) -> bool {
+        for (place, option) in self.scope.iter().enumerate() {
+            let upheld = (0..4u8).all(|held| !member(sets, *option, held)
+                || self.supports(sets, place, held));
+            if !upheld {
                 return false;
             }
         }
+        true
     }
-    true
+
+    /// Whether the table lists every combination of values from its scope's sets.
+    fn rules_nothing_out(&self, sets: &[u32]) -> bool {
+        !self.others.iter().any(|row| self.is_live(row, sets))
+    }
 }
 
-/// Whether every value has support in every table with its option.
-fn closed(model: &Model, sets: &[u32; 24]) -> bool {
-    for table in model.tables.iter().take(model.count) {
-        if !upheld(table, sets) {
-            return false;
+impl Model {
+    /// The book of a plan.
+    pub fn of(heap: Global, plan: Plan) -> Result<Model, AllocError> {
+        let Plan { sizes, tables } = plan;
+        let mut listings = Vec::new(heap);
+        for table in tables {
+            listings.push(Listing::of(heap, table, &sizes)?)?;
         }
+        Ok(Model {
+            sizes,
+            tables: listings,
+        })
     }
-    true
+
+    /// How many tables there are.
+    pub fn tables(&self) -> usize {
+        self.tables.len()
+    }
+
+    /// The sets without options and values that the book lacks.
+    pub fn trimmed(&self, sets: &[u32; 24]) -> [u32; 24] {
+        let mut kept = [0; 24];
+        for ((kept, set), size) in kept.iter_mut().zip(sets).zip(&self.sizes) {
+            *kept = *set & (1u32 << (*size % 32)).wrapping_sub(1);
+        }
+        kept
+    }
+
+    /// Whether every value has support in every table with its option.
+    fn is_closed(&self, sets: &[u32]) -> bool {
+        self.tables.iter().all(|table| table.is_upheld(sets))
+    }
+
+    /// All closed families inside the start together, in a book of up to four options of up to three values.
+    pub fn largest(&self, start: &[u32; 24]) -> [u32; 4] {
+        let mut all = [0; 4];
+        for number in 0..4096u32 {
+            let sets = family(number);
+            if inside(&sets, start) && self.is_closed(&sets) {
+                for (all, set) in all.iter_mut().zip(&sets) {
+                    *all |= *set;
+                }
+            }
+        }
+        all
+    }
+
+    /// Whether every table with the option in its scope is universal.
+    pub fn is_free(&self, sets: &[u32], option: usize) -> bool {
+        self.tables.iter().all(|table| !table.scope.contains(&option)
+            || table.rules_nothing_out(sets))
+    }
+
+    /// The box of the sets: each option's set, but for those that are whole or free.
+    pub fn recorded(&self, sets: &[u32; 24]) -> [u32; 24] {
+        let mut noted = [0; 24];
+        let places = noted.iter_mut().zip(sets).zip(&self.sizes);
+        for (option, ((noted, set), size)) in places.enumerate() {
+            if !is_whole(*set, *size) && !self.is_free(sets, option) {
+                *noted = *set;
+            }
+        }
+        noted
+    }
+
+    /// The universal tables, table t worth 2 to the power t.
+    pub fn universal_tables(&self, sets: &[u32]) -> u32 {
+        let mut all = 0u32;
+        for table in self.tables.iter().rev() {
+            all = all << 1 | u32::from(table.rules_nothing_out(sets));
+        }
+        all
+    }
 }
 
 /// The sets of a family by its number, three binary digits for each of the first four options.
-fn family(number: u32) -> [u32; 24] {
-    let mut sets = [0u32; 24];
-    sets[0] = number % 8;
-    sets[1] = number / 8 % 8;
-    sets[2] = number / 64 % 8;
-    sets[3] = number / 512 % 8;
-    sets
+fn family(number: u32) -> [u32; 4] {
+    [
+        number % 8,
+        number / 8 % 8,
+        number / 64 % 8,
+        number / 512 % 8,
+    ]
 }
 
-/// Whether the first four sets of the one lie inside those of the other.
-fn inside(one: &[u32; 24], other: &[u32; 24]) -> bool {
-    for option in 0..4usize {
-        if one[option] & !other[option] != 0 {
-            return false;
-        }
-    }
-    true
+/// Whether the sets of the one lie inside those of the other.
+fn inside(one: &[u32], other: &[u32]) -> bool {
+    one.iter()
+        .zip(other)
+        .all(|(one, other)| *one & !*other == 0)
 }
 
-/// All closed families inside the start together, in a book of up to four options of up to three values.
-pub fn largest(model: &Model, start: &[u32; 24]) -> [u32; 24] {
-    let mut all = [0u32; 24];
-    for number in 0..4096u32 {
-        let sets = family(number);
-        if inside(&sets, start) && closed(model, &sets) {
-            for option in 0..4usize {
-                all[option] |= sets[option];
-            }
-        }
-    }
-    all
-}
-
-/// Whether the table lists every combination of values from its scope's sets.
-pub fn rules_nothing_out(table: &Table, sets: &[u32; 24]) -> bool {
-    for row in 0..64usize {
-        if table.in_width(row) && live(table, row, sets) && !table.lists(row) {
-            return false;
-        }
-    }
-    true
-}
-
-/// Whether every table with the option in its scope is universal.
-pub fn free(model: &Model, sets: &[u32; 24], option: usize) -> bool {
-    for table in model.tables.iter().take(model.count) {
-        if table.mentions(option) && !rules_nothing_out(table, sets) {
-            return false;
-        }
-    }
-    true
-}
-
-/// Whether the set has all values that the option has.
-pub fn whole(model: &Model, sets: &[u32; 24], option: usize) -> bool {
-    for held in 0..model.size(option) {
-        if !member(sets, option, held) {
-            return false;
-        }
-    }
-    true
-}
-
-/// The box of the sets: each option's set, but for those that are whole or free.
-pub fn recorded(model: &Model, sets: &[u32; 24]) -> [u32; 24] {
-    let mut noted = [0u32; 24];
-    for option in 0..24usize {
-        if option < model.options && !whole(model, sets, option) && !free(model, sets, option) {
-            noted[option] = sets[option];
-        }
-    }
-    noted
-}
-
-/// The universal tables, table t worth 2 to the power t.
-pub fn universal_tables(model: &Model, sets: &[u32; 24]) -> u32 {
-    let mut all = 0u32;
-    for table in 0..16usize {
-        if table < model.count && rules_nothing_out(&model.tables[table], sets) {
-            all |= 1u32 << table;
-        }
-    }
-    all
+/// Whether the set has all values of an option of this size.
+pub fn is_whole(set: u32, size: u8) -> bool {
+    (0..size).all(|held| has(set, held))
 }

@@ -56,8 +56,6 @@ fn ask(book: &Book, start: [u32; 24]) -> Answer {
 
 /// Reads the file and asks the library; nothing where the file is refused.
 pub fn consult<'a>(file: &'a [u8], rows: &'a mut [Row], start: [u32; 24]) -> Option<Answer> {
-    match book::read(file, rows) {
-        Ok(index) => Some(ask(&Book::open(file, rows, index), start)),
-        Err(_) => None,
-    }
+    let index = book::read(file, rows).ok()?;
+    Some(ask(&Book::open(file, rows, index), start))
 }

@@ -2,12 +2,10 @@
 // answer is compared with the definitions read directly.
 #![tactic(auto)]
 
-mod builder;
-mod chance;
 mod direct;
 mod fixed;
 mod library;
-mod model;
+mod made;
 mod random;
 
 use std::io;

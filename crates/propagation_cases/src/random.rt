@@ -1,16 +1,15 @@
 // Random small books: what the library says of each, compared with the definitions read directly.
-use crate::builder::file_of;
-use crate::chance::Chance;
-use crate::direct::{free, largest, recorded, trimmed, universal_tables, whole};
+use crate::direct::{Model, is_whole};
 use crate::library::{Answer, Reduced, consult};
-use crate::model::Model;
+use crate::made::{random_plan, random_sets};
 use book::Row;
+use made_books::{Dice, build};
 use propagate::Outcome;
 use std::io;
 use values::size;
 
 /// What was counted.
-#[derive(Clone, Copy)]
+#[derive(Clone, Copy, Default)]
 struct Totals {
     books: usize,
     narrowed: usize,
@@ -27,111 +26,85 @@ struct Totals {
     tables_agree: usize,
 }
 
-impl Totals {
-    fn new() -> Totals {
-        Totals {
-            books: 0,
-            narrowed: 0,
-            cut: 0,
-            emptied: 0,
-            agree: 0,
-            boxes: 0,
-            boxes_agree: 0,
-            options: 0,
-            whole: 0,
-            free: 0,
-            tables: 0,
-            universal: 0,
-            tables_agree: 0,
-        }
-    }
+/// One more.
+fn raise(count: &mut usize) {
+    *count = count.wrapping_add(1);
+}
 
+impl Totals {
     /// How propagation ended, and whether as it should.
     fn outcome(&mut self, model: &Model, start: &[u32; 24], said: &Answer) {
         match said.outcome {
-            Outcome::Narrowed => self.narrowed = self.narrowed.wrapping_add(1),
-            Outcome::Emptied => self.emptied = self.emptied.wrapping_add(1),
+            Outcome::Narrowed => raise(&mut self.narrowed),
+            Outcome::Emptied => raise(&mut self.emptied),
         }
-        if trimmed(model, &said.sets) != trimmed(model, start) {
-            self.cut = self.cut.wrapping_add(1);
+        if model.trimmed(&said.sets) != model.trimmed(start) {
+            raise(&mut self.cut);
         }
         if as_defined(model, start, said) {
-            self.agree = self.agree.wrapping_add(1);
+            raise(&mut self.agree);
         }
     }
 
     /// The box of some sets, and the tables universal there.
     fn reduced(&mut self, model: &Model, sets: &[u32; 24], said: &Reduced) {
-        let sets = trimmed(model, sets);
-        self.boxes = self.boxes.wrapping_add(1);
-        if recorded(model, &sets) == said.recorded {
-            self.boxes_agree = self.boxes_agree.wrapping_add(1);
+        let sets = model.trimmed(sets);
+        raise(&mut self.boxes);
+        if model.recorded(&sets) == said.recorded {
+            raise(&mut self.boxes_agree);
         }
-        let tables = universal_tables(model, &sets);
-        self.tables = self.tables.wrapping_add(model.count);
+        let tables = model.universal_tables(&sets);
+        let count = model.tables();
+        self.tables = self.tables.wrapping_add(count);
         self.universal = self.universal.wrapping_add(size(tables));
         let unlike = size(tables ^ said.universal);
-        self.tables_agree = self
-            .tables_agree
-            .wrapping_add(model.count.wrapping_sub(unlike));
+        self.tables_agree = self.tables_agree.wrapping_add(count.wrapping_sub(unlike));
         self.reasons(model, &sets);
     }
 
     /// How many options are whole, and how many others are free.
     fn reasons(&mut self, model: &Model, sets: &[u32; 24]) {
-        self.options = self.options.wrapping_add(model.options);
-        for option in 0..model.options {
-            if whole(model, sets, option) {
-                self.whole = self.whole.wrapping_add(1);
-            } else if free(model, sets, option) {
-                self.free = self.free.wrapping_add(1);
+        self.options = self.options.wrapping_add(model.sizes.len());
+        for (option, (set, size)) in sets.iter().zip(&model.sizes).enumerate() {
+            if is_whole(*set, *size) {
+                raise(&mut self.whole);
+            } else if model.is_free(sets, option) {
+                raise(&mut self.free);
             }
         }
     }
 }
 
-/// Whether the first options have an empty set.
-fn has_empty(sets: &[u32; 24], options: usize) -> bool {
-    for set in sets.iter().take(options) {
-        if *set == 0 {
-            return true;
-        }
-    }
-    false
-}
-
-/// The sets of the book's options, and those of the start behind them.
-fn joined(model: &Model, sets: &[u32; 24], start: &[u32; 24]) -> [u32; 24] {
+/// The found sets of the book's options, and those of the start behind them.
+fn joined(model: &Model, found: &[u32; 4], start: &[u32; 24]) -> [u32; 24] {
     let mut all = *start;
-    for option in 0..24usize {
-        if option < model.options {
-            all[option] = sets[option];
-        }
+    for ((all, set), _) in all.iter_mut().zip(found).zip(&model.sizes) {
+        *all = *set;
     }
     all
 }
 
 /// Whether propagation ended as all closed families together say.
 fn as_defined(model: &Model, start: &[u32; 24], said: &Answer) -> bool {
-    let found = largest(model, &trimmed(model, start));
+    let found = model.largest(&model.trimmed(start));
+    let emptied = found.iter().zip(&model.sizes).any(|(set, _)| *set == 0);
     match said.outcome {
-        Outcome::Emptied => has_empty(&found, model.options) && said.sets == *start,
-        Outcome::Narrowed => {
-            !has_empty(&found, model.options) && said.sets == joined(model, &found, start)
-        }
+        Outcome::Emptied => emptied && said.sets == *start,
+        Outcome::Narrowed => !emptied && said.sets == joined(model, &found, start),
     }
 }
 
 /// So many books, and the totals.
 pub fn random_books(rt: &HostRuntime, rows: &mut [Row], books: usize) -> io::Result<()> {
-    let mut chance = Chance { state: 20 };
-    let mut totals = Totals::new();
+    let heap = rt.alloc();
+    let mut dice = Dice::new(20);
+    let mut totals = Totals::default();
     for _ in 0..books {
-        let model = chance.book();
-        let start = chance.sets();
-        let file = file_of(rt.alloc(), &model)?;
-        if let Some(said) = consult(&file, rows, start) {
-            totals.books = totals.books.wrapping_add(1);
+        let plan = random_plan(heap, &mut dice)?;
+        let start = random_sets(&mut dice);
+        if let Some(said) = consult(&build(heap, &plan)?, rows, start) {
+            let model = Model::of(heap, plan)?;
+            raise(&mut totals.books);
             totals.outcome(&model, &start, &said);
             totals.reduced(&model, &start, &said.before);
             totals.reduced(&model, &said.sets, &said.after);

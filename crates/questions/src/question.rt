@@ -7,47 +7,47 @@ use std::fmt;
 #[derive(Clone, Copy, PartialEq, Eq, Debug)]
 pub enum Question {
     /// Is the file at most 32,768 bytes long?
-    FileLength,
+    FileLength = 1,
     /// Does the field end inside the file?
-    FieldInside,
+    FieldInside = 2,
     /// Is the edition 1?
-    Edition,
+    Edition = 3,
     /// Are there 1 to 24 options and at most 48 tables?
-    Counts,
+    Counts = 4,
     /// Is the size 1 to 32, the name length 1 to 16?
-    OptionShape,
+    OptionShape = 5,
     /// Is the kind of the table 0?
-    Kind,
+    Kind = 6,
     /// Has the scope 1 to 4 options of the book, in rising order?
-    Scope,
+    Scope = 7,
     /// Has the table at most 1,024 rows, and have all tables up to it at most 8,192?
-    RowCount,
+    RowCount = 8,
     /// Is the value below its option's size, and does the row rise above the one before it?
-    RowValue,
+    RowValue = 9,
     /// Are the filling bits zero, the name bytes printable, and does the file end there?
-    Tail,
+    Tail = 10,
     /// Does the slice to be filled have room?
-    Room,
+    Room = 11,
     /// Is the person 1 or 2?
-    Person,
+    Person = 12,
     /// Is the option in the book?
-    OptionKnown,
+    OptionKnown = 13,
     /// Is the value below the option's size?
-    ValueKnown,
+    ValueKnown = 14,
     /// Is this decision of this person not yet standing?
-    NotStanding,
+    NotStanding = 15,
     /// Is this decision of this person standing?
-    Standing,
+    Standing = 16,
     /// Has the slice 1 to 512 slots?
-    Slots,
+    Slots = 17,
     /// Is the budget 1 to 1,000,000?
-    Budget,
+    Budget = 18,
     /// Has each work slice as many places as all sizes together?
-    WorkRoom,
+    WorkRoom = 19,
     /// Has the slice for the fit a place for each option?
-    FitRoom,
+    FitRoom = 20,
     /// Are the values a fit of the book that meets every standing decision?
-    Fit,
+    Fit = 21,
 }
 
 impl Question {
@@ -55,29 +55,7 @@ impl Question {
     pub fn number(self) -> u8
         ensures { result ≡ number self }
     {
-        match self {
-            Question::FileLength => 1,
-            Question::FieldInside => 2,
-            Question::Edition => 3,
-            Question::Counts => 4,
-            Question::OptionShape => 5,
-            Question::Kind => 6,
-            Question::Scope => 7,
-            Question::RowCount => 8,
-            Question::RowValue => 9,
-            Question::Tail => 10,
-            Question::Room => 11,
-            Question::Person => 12,
-            Question::OptionKnown => 13,
-            Question::ValueKnown => 14,
-            Question::NotStanding => 15,
-            Question::Standing => 16,
-            Question::Slots => 17,
-            Question::Budget => 18,
-            Question::WorkRoom => 19,
-            Question::FitRoom => 20,
-            Question::Fit => 21,
-        }
+        self as u8
     }
 }
 

@@ -52,13 +52,7 @@ pub fn read_from<S: Source>(
     let mut sizes = [0; 24];
     let mut lengths = [0; 24];
     let letters = shapes(source, options, &mut sizes, &mut lengths)?;
-    let none = TableIndex {
-        scope: [0; 4],
-        arity: 0,
-        start: 0,
-        count: 0,
-    };
-    let mut table = [none; 48];
+    let mut table = [TableIndex::default(); 48];
     let rows = tables(source, count, &sizes[0..options], out, &mut table)?;
     tail(source, &mut names[0..letters])?;
     Ok(Index {

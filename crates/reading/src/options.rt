@@ -33,6 +33,7 @@ pub fn shapes<S: Source>(
     ensures total { IfOk result (λ n. (n ≡ sum (take count lengths.new)) × (n ≤ 384)) }
 {
     let mut total = 0;
+    // The option's number is the field's own. Tried over the two slices side by side: of what is written through a zip nothing is known afterwards.
     for i in 0..count {
         let (size, length) = shape(source, i)?;
         sizes[i] = size as u8;
@@ -47,9 +48,9 @@ pub fn letters<S: Source>(source: &mut S, out: &mut [u8]) -> Result<usize, Fault
     ensures value { told (λ _. out.new) result (S.place source.new) ≡ letters (S.gives source.old) (length out.old) (S.place source.old) }
     ensures same { S.gives source.new ≡ S.gives source.old }
 {
-    for k in 0..out.len() {
+    for (k, place) in out.iter_mut().enumerate() {
         let byte = within(source, Field::NameByte(k), 0x21, 0x7f)?;
-        out[k] = byte as u8;
+        *place = byte as u8;
     }
     Ok(out.len())
 }

@@ -1,11 +1,16 @@
 // A second reading of the file format, written apart from the first and in another way, to compare it with.
+use arrayvec::ArrayVec;
+use questions::Question;
 
-/// What a reading finds: a refusal by its number and bit, or a digest of all that was read.
+/// A refusal: the question that the file answers no to, and the bit at which it is asked.
 #[derive(Clone, Copy, PartialEq, Eq, Debug)]
-pub enum Finding {
-    Refused(u8, usize),
-    Book(u64),
+pub struct Refusal {
+    pub question: Question,
+    pub bit: usize,
 }
+
+/// What a reading finds: a digest of all that was read, or a refusal.
+pub type Finding = Result<u64, Refusal>;
 
 /// One number more into a digest.
 pub fn mix(digest: u64, number: usize) -> u64 {
@@ -14,20 +19,18 @@ pub fn mix(digest: u64, number: usize) -> u64 {
         .rotate_left(7)
 }
 
-/// Goes through a file; once refused, it reads nothing more.
+/// Goes through a file.
 #[derive(Drop)]
 struct Scan<'a> {
     file: &'a [u8],
     at: usize,
-    refused: Option<(u8, usize)>,
     digest: u64,
 }
 
 impl Scan<'_> {
-    fn refuse(&mut self, number: u8, bit: usize) {
-        if self.refused.is_none() {
-            self.refused = Some((number, bit));
-        }
+    /// How many bits the file has.
+    fn bits(&self) -> usize {
+        self.file.len().wrapping_mul(8)
     }
 
     fn bit(&self, place: usize) -> usize {
@@ -37,119 +40,131 @@ impl Scan<'_> {
         }
     }
 
-    /// The next field, from `low` to `high`, else refused by `number`.
-    fn take(&mut self, width: usize, low: usize, high: usize, number: u8) -> usize {
-        if self.refused.is_some() {
-            return low;
-        }
-        let first = self.at;
-        let last = first.wrapping_add(width);
-        if last > self.file.len().wrapping_mul(8) {
-            self.refuse(2, first);
-            return low;
+    /// The next field, from `low` to `high`, else refused by the question.
+    fn take(
+        &mut self,
+        width: usize,
+        low: usize,
+        high: usize,
+        question: Question,
+    ) -> Result<usize, Refusal> {
+        let bit = self.at;
+        let last = bit.wrapping_add(width);
+        if last > self.bits() {
+            let question = Question::FieldInside;
+            return Err(Refusal { question, bit });
         }
         let mut value: usize = 0;
-        for place in first..last {
+        for place in bit..last {
             value = value.wrapping_mul(2).wrapping_add(self.bit(place));
         }
         if value < low || value > high {
-            self.refuse(number, first);
-            return low;
+            return Err(Refusal { question, bit });
         }
         self.at = last;
         self.digest = mix(self.digest, value);
-        value
+        Ok(value)
     }
 
-    fn row(
-        &mut self,
-        scope: &[usize; 4],
-        arity: usize,
-        sizes: &[usize; 24],
-        last: &mut [usize; 4],
-        fresh: bool,
-    ) {
-        let first = self.at;
-        let mut row = [0usize; 4];
-        for j in 0..4 {
-            if j < arity {
-                let high = sizes[scope[j] % 24].wrapping_sub(1);
-                row[j] = self.take(5, 0, high, 9);
-            }
+    /// So many options: the size of each, and the length of all names together.
+    fn options(&mut self, count: usize) -> Result<(ArrayVec<usize, 24>, usize), Refusal> {
+        let mut sizes = ArrayVec::new();
+        let mut letters = 0usize;
+        for _ in 0..count {
+            let less = self.take(5, 0, 31, Question::OptionShape)?;
+            let length = self.take(5, 1, 16, Question::OptionShape)?;
+            let _ = sizes.try_push(less.wrapping_add(1));
+            letters = letters.wrapping_add(length);
         }
-        let key = ((row[0] % 32 * 32 + row[1] % 32) * 32 + row[2] % 32) * 32 + row[3] % 32;
-        let old = ((last[0] % 32 * 32 + last[1] % 32) * 32 + last[2] % 32) * 32 + last[3] % 32;
-        if !fresh && key <= old {
-            self.refuse(9, first);
-        }
-        *last = row;
+        Ok((sizes, letters))
     }
 
-    fn table(&mut self, sizes: &[usize; 24], options: usize, total: usize) -> usize {
-        self.take(1, 0, 0, 6);
-        let arity = self.take(2, 0, 3, 7) % 4 + 1;
-        let mut scope = [0usize; 4];
+    /// The options of a table, in a book of so many.
+    fn scope(&mut self, options: usize) -> Result<ArrayVec<usize, 4>, Refusal> {
+        let mut scope = ArrayVec::new();
         let mut low = 0;
-        for j in 0..4 {
-            if j < arity {
-                scope[j] = self.take(5, low, options.wrapping_sub(1), 7);
-                low = scope[j].wrapping_add(1);
-            }
+        let less = self.take(2, 0, 3, Question::Scope)?;
+        for _ in 0..less.wrapping_add(1) {
+            let option = self.take(5, low, options.wrapping_sub(1), Question::Scope)?;
+            let _ = scope.try_push(option);
+            low = option.wrapping_add(1);
         }
-        let room = 8192usize.saturating_sub(total).min(1024);
-        let count = self.take(11, 0, room, 8) % 2048;
-        let mut last = [0usize; 4];
-        for r in 0..count {
-            if self.refused.is_none() {
-                self.row(&scope, arity, sizes, &mut last, r == 0);
-            }
-        }
-        total.saturating_add(count)
+        Ok(scope)
     }
 
-    fn tail(&mut self, letters: usize) {
+    fn row(&mut self, scope: &[usize], sizes: &[usize]) -> Result<ArrayVec<usize, 4>, Refusal> {
+        let mut row = ArrayVec::new();
+        for option in scope {
+            let size = sizes.get(*option).copied().unwrap_or(0);
+            let value = self.take(5, 0, size.wrapping_sub(1), Question::RowValue)?;
+            let _ = row.try_push(value);
+        }
+        Ok(row)
+    }
+
+    /// So many rows, which rise.
+    fn rows(&mut self, count: usize, scope: &[usize], sizes: &[usize]) -> Result<(), Refusal> {
+        let mut last: Option<ArrayVec<usize, 4>> = None;
+        for _ in 0..count {
+            let bit = self.at;
+            let row = self.row(scope, sizes)?;
+            if last.is_some_and(|last| row <= last) {
+                let question = Question::RowValue;
+                return Err(Refusal { question, bit });
+            }
+            last = Some(row);
+        }
+        Ok(())
+    }
+
+    /// A table behind others that have so many rows: how many there are then.
+    fn table(&mut self, sizes: &[usize], total: usize) -> Result<usize, Refusal> {
+        self.take(1, 0, 0, Question::Kind)?;
+        let scope = self.scope(sizes.len())?;
+        let room = 8192usize.saturating_sub(total).min(1024);
+        let count = self.take(11, 0, room, Question::RowCount)?;
+        self.rows(count, &scope, sizes)?;
+        Ok(total.saturating_add(count))
+    }
+
+    fn tail(&mut self, letters: usize) -> Result<(), Refusal> {
         let filling = (8 - self.at % 8) % 8;
-        self.take(filling, 0, 0, 10);
+        self.take(filling, 0, 0, Question::Tail)?;
         for _ in 0..letters {
-            self.take(8, 33, 126, 10);
+            self.take(8, 33, 126, Question::Tail)?;
         }
-        if self.refused.is_none() && self.at != self.file.len().wrapping_mul(8) {
-            let end = self.at;
-            self.refuse(10, end);
+        let bit = self.at;
+        if bit != self.bits() {
+            let question = Question::Tail;
+            return Err(Refusal { question, bit });
         }
+        Ok(())
     }
 }
 
 /// What the second reading finds in a file, with room for so many rows.
 pub fn second(file: &[u8], room: usize) -> Finding {
     if file.len() > 32768 {
-        return Finding::Refused(1, 0);
+        let question = Question::FileLength;
+        return Err(Refusal { question, bit: 0 });
     }
     let mut scan = Scan {
         file,
         at: 0,
-        refused: None,
         digest: 0,
     };
-    scan.take(8, 1, 1, 3);
-    let options = scan.take(5, 1, 24, 4) % 32;
-    let tables = scan.take(6, 0, 48, 4) % 64;
-    let mut sizes = [0usize; 24];
-    let mut letters: usize = 0;
-    for i in 0..options {
-        sizes[i % 24] = scan.take(5, 0, 31, 5).wrapping_add(1);
-        letters = letters.wrapping_add(scan.take(5, 1, 16, 5));
-    }
+    scan.take(8, 1, 1, Question::Edition)?;
+    let options = scan.take(5, 1, 24, Question::Counts)?;
+    let tables = scan.take(6, 0, 48, Question::Counts)?;
+    let (sizes, letters) = scan.options(options)?;
     let mut total = 0;
     for _ in 0..tables {
-        total = scan.table(&sizes, options, total);
+        total = scan.table(&sizes, total)?;
     }
-    scan.tail(letters);
-    if scan.refused.is_none() && total > room {
-        scan.refuse(11, 0);
+    scan.tail(letters)?;
+    if total > room {
+        let question = Question::Room;
+        return Err(Refusal { question, bit: 0 });
     }
-    match scan.refused {
-        Some((number, bit)) => Finding::Refused(number, bit),
-        None => Finding::Book(scan.digest),
-    }
+    Ok(scan.digest)
 }

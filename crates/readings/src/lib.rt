@@ -4,5 +4,5 @@
 mod apart;
 mod ours;
 
-pub use apart::{Finding, second};
+pub use apart::{Finding, Refusal, second};
 pub use ours::first;

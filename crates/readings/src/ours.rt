@@ -1,6 +1,16 @@
 // What the library's reading finds, in the terms of the second reading.
-use crate::apart::{Finding, mix};
-use book::{Book, Row, TableIndex};
+use crate::apart::{Finding, Refusal, mix};
+use book::{Book, Fault, Row, TableIndex};
+
+/// The second reading tells no field.
+impl From<Fault> for Refusal {
+    fn from(fault: Fault) -> Refusal {
+        Refusal {
+            question: fault.question,
+            bit: fault.bit,
+        }
+    }
+}
 
 fn mix_options(book: &Book, digest: u64) -> u64 {
     let mut digest = digest;
@@ -15,11 +25,11 @@ fn mix_options(book: &Book, digest: u64) -> u64 {
 
 fn mix_table(book: &Book, table: &TableIndex, digest: u64) -> u64 {
     let mut digest = mix(mix(digest, 0), table.arity.wrapping_sub(1));
-    for option in table.scope.iter().take(table.arity) {
+    for option in table.own_scope() {
         digest = mix(digest, *option as usize);
     }
     digest = mix(digest, table.count);
-    for row in book.rows().iter().skip(table.start).take(table.count) {
+    for row in book.rows_of(table) {
         for value in row.iter().take(table.arity) {
             digest = mix(digest, *value as usize);
         }
@@ -35,20 +45,14 @@ fn digest(book: &Book) -> u64 {
         digest = mix_table(book, table, digest);
     }
     digest = mix(digest, 0);
-    for i in 0..book.sizes().len() {
-        if let Ok(name) = book.name(i) {
-            for byte in name {
-                digest = mix(digest, *byte as usize);
-            }
-        }
+    for byte in book.letters() {
+        digest = mix(digest, *byte as usize);
     }
     digest
 }
 
 /// What `read` finds in a file, with the caller's rows.
 pub fn first<'a>(file: &'a [u8], rows: &'a mut [Row]) -> Finding {
-    match book::read(file, rows) {
-        Ok(index) => Finding::Book(digest(&Book::open(file, rows, index))),
-        Err(fault) => Finding::Refused(fault.question.number(), fault.bit),
-    }
+    let index = book::read(file, rows)?;
+    Ok(digest(&Book::open(file, rows, index)))
 }

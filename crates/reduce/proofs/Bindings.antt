@@ -1,60 +1,36 @@
 -- The options that tables bind.
-use Rattle.std.proofs.Common.{◌≡◌, ℕ, ◌+◌, ◌^◌, ◌<◌, ◌≤◌, ◌⊎◌, List, [], ◌∷◌, ◌++◌, length, get_or, sym, ap, ◌∙◌, subst, inl, inr, arith}
+use Rattle.std.proofs.Common.{◌≡◌, ℕ, zero, suc, ◌^◌, ◌<◌, ◌⊎◌, List, [], ◌∷◌, ◌++◌, length, get_or, sym, subst, inl, inr, arith}
 use lib.Bits.{bit_or}
-use Rattle.std.specs.List.{AllByRecursion}
+use Rattle.std.specs.List.{fold, AllByRecursion}
 use Rattle.std.proofs.ByRecursion.{All-push}
-use Rattle.std.proofs.lemmas.Bool.{cases_lt}
 use Rattle.grammar.specs.Contents.{Table, ValidTable}
 use Rattle.values.specs.Members.{In}
 use Rattle.propagate.specs.Sets.{Sets}
 use Rattle.propagate.specs.Support.{Mentions}
-use Rattle.values.proofs.Digits.{in_either, in_or, in_zero, in_one, in_one_only}
+use Rattle.values.proofs.Digits.{in_either, in_or, in_one, in_one_only}
 use Rattle.propagate.proofs.Living.{live_like}
 use Rattle.propagate.proofs.Cuts.{all_parts}
 use Rattle.reduce.specs.Universal.{Universal, Free}
 use Rattle.reduce.specs.Steps.{Marks, Binds}
 
--- the scope has the option before the place m
-abbrev Before : List ℕ → ℕ → ℕ → Type 0
-Before scope m x = (j : ℕ) × (j < m) × (get_or scope j 0 ≡ x)
-
-pub record Marking (before : ℕ) (scope : List ℕ) (m now : ℕ) : Type 0 where
-  pub only : (x : ℕ) → In now x → In before x ⊎ Before scope m x
-  pub all : (x : ℕ) → In before x ⊎ Before scope m x → In now x
-
-pub marking_none : (before : ℕ) (scope : List ℕ) → Marking before scope 0 before
-marking_none before scope = record {
-  only = λ x h. inl h;
-  all = λ x h. elim h [ inl k ↦ k | inr b ↦ absurd (omega (arith, b.1)) ];
-}
-
-pub marking_more : (before : ℕ) (scope : List ℕ) (m now : ℕ) → Marking before scope m now → Marking before scope (m + 1) (bit_or now (2 ^ get_or scope m 0))
-marking_more before scope m now old = record {
-  only = λ x h. elim (in_either now (2 ^ get_or scope m 0) x h) [
-    | inl k ↦ elim (old.only x k) [ inl i ↦ inl i | inr b ↦ inr (b.0, omega (arith, b.1), b.2) ]
-    | inr one ↦ inr (m, omega arith, sym (in_one_only (get_or scope m 0) x one))
-  ];
-  all = λ x h. in_or now (2 ^ get_or scope m 0) x (elim h [
-    | inl i ↦ inl (old.all x (inl i))
-    | inr b ↦ elim (cases_lt b.0 m) [
-      | inl l ↦ inl (old.all x (inr (b.0, l, b.2)))
-      | inr g ↦
-          let at : b.0 ≡ m = omega (arith, b.1) in
-          inr (subst (In (2 ^ get_or scope m 0)) (ap (λ j. get_or scope j 0) (sym at) ∙ b.2) (in_one (get_or scope m 0)))
-    ]
-  ]);
-}
-
-pub marks : (before : ℕ) (scope : List ℕ) (m now : ℕ) → length scope ≤ m → m ≤ length scope → Marking before scope m now → Marks before scope now
-marks before scope m now g l all = record {
-  only = λ x h. elim (all.only x h) [ inl i ↦ inl i | inr b ↦ inr (b.0, omega (arith, b.1), b.2) ];
-  all = λ x h. all.all x (elim h [ inl i ↦ inl i | inr b ↦ inr (b.0, omega (arith, b.1), b.2) ]);
-}
+-- the options of the scope put in, one after another
+pub marks_fold : (scope : List ℕ) (before : ℕ) → Marks before scope (fold (λ m x. bit_or m (2 ^ x)) before scope)
+marks_fold [] before = record { only = λ x h. inl h; all = λ x h. elim h [ inl k ↦ k | inr m ↦ absurd (omega (arith, m.1)) ] }
+marks_fold (y ∷ scope) before =
+    let rest = marks_fold scope (bit_or before (2 ^ y)) in
+    record {
+      only = λ x h. elim (rest.only x h) [
+        | inl k ↦ elim (in_either before (2 ^ y) x k) [ inl i ↦ inl i | inr one ↦ inr (0, omega arith, sym (in_one_only y x one)) ]
+        | inr m ↦ inr (suc m.0, omega (arith, m.1), m.2)
+      ];
+      all = λ x h. rest.all x (elim h [ inl i ↦ inl (in_or before (2 ^ y) x (inl i)) | inr m ↦ put x m.0 m.1 m.2 ]);
+    }
+  where
+    put : (x j : ℕ) → j < length (y ∷ scope) → get_or (y ∷ scope) j 0 ≡ x → In (bit_or before (2 ^ y)) x ⊎ Mentions scope x
+    put x zero l e = inl (in_or before (2 ^ y) x (inr (subst (In (2 ^ y)) e (in_one y))))
+    put x (suc j) l e = inr (j, omega arith, e)
 
 -- ---- one more table
-
-pub binds_none : (sets : Sets) (bound : ℕ) → bound ≡ 0 → Binds sets [] bound
-binds_none sets bound z = record { free = λ x h. tt; tied = λ x h f. in_zero x (subst (λ n. In n x) z h) }
 
 module _ (sets : Sets) (tables : List Table) (t : Table) (bound : ℕ) (old : Binds sets tables bound) where
   pub binds_universal : Universal sets t → Binds sets (tables ++ t ∷ []) bound

@@ -1,5 +1,6 @@
 // The box that stands for value sets.
 ghost use Rattle.std.specs.Prelude.{◌≡◌, ℕ, ◌^◌, ◌<◌, ◌≤◌, length, Decides, slice_index};
+ghost use Rattle.std.specs.List.{All};
 ghost use Rattle.book.specs.Books.{contents};
 ghost use Rattle.values.specs.Members.{In};
 ghost use Rattle.propagate.specs.Sets.{placed};
@@ -10,32 +11,23 @@ ghost use Rattle.reduce.specs.Steps.{Marks, Binds, Records};
 use crate::tables::covers;
 use book::Book;
 use boxes::ValueBox;
-use propagate::{ValueSets, scope_of, sizes_of, trim};
-use values::{full, has};
+use propagate::{ValueSets, trim};
+use values::{full, has, only};
 
 /// The set of options with those of the scope put in.
 fn mark(options: u32, scope: &[u8]) -> u32
-    requires { (j : ℕ) → j < length scope.now → slice_index scope.now j < 32 }
+    requires { All (λ x. x < 32) scope.now }
     ensures { Marks options scope.now result }
 {
-    let mut marked = options;
-    for x in scope {
-        marked |= 1 << *x;
-    }
-    marked
+    scope.iter().fold(options, |marked, x| marked | only(*x))
 }
 
 /// Whether the scope has an option that is not yet among these.
 fn adds(scope: &[u8], options: u32) -> bool
-    requires { (j : ℕ) → j < length scope.now → slice_index scope.now j < 32 }
+    requires { All (λ x. x < 32) scope.now }
     ensures { Decides result ((x : ℕ) × Mentions scope.now x × (In options x → ⊥)) }
 {
-    for x in scope {
-        if !has(options, *x) {
-            return true;
-        }
-    }
-    false
+    scope.iter().any(|x| !has(options, *x))
 }
 
 /// The options that some table binds: one that has the option in its scope and is not universal.
@@ -46,7 +38,7 @@ fn bound_options(book: &Book, sets: &[u32; 24]) -> u32
     let tables = book.tables();
     let mut bound = 0;
     for table in tables {
-        let scope = scope_of(table);
+        let scope = table.own_scope();
         if adds(scope, bound) && !covers(book, table, sets) {
             bound = mark(bound, scope);
         }
@@ -84,10 +76,9 @@ pub fn box_of(book: &Book, sets: &ValueSets) -> ValueBox
     let mut values = sets.sets;
     trim(book, &mut values);
     let bound = bound_options(book, &values);
-    let sizes = sizes_of(book);
     let mut noted = [0; 24];
-    for x in 0..sizes.len() {
-        noted[x] = recorded(bound, x as u8, values[x], sizes[x]);
+    for (x, size) in book.sizes().iter().enumerate() {
+        noted[x] = recorded(bound, x as u8, values[x], *size);
     }
     ValueBox { sets: noted }
 }

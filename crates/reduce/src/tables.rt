@@ -1,24 +1,24 @@
 // Tables that rule nothing out in some sets.
 ghost use Rattle.std.specs.Prelude.{◌≡◌, ℕ, ◌<◌, ◌≤◌, length, Decides, slice_index};
-ghost use Rattle.std.specs.List.{ContainsAt as Has};
+ghost use Rattle.std.specs.List.{All, ContainsAt as Has};
 ghost use Rattle.grammar.specs.Layout.{table_of};
 ghost use Rattle.book.specs.Books.{contents, rows_at, tables_at};
 ghost use Rattle.propagate.specs.Sets.{placed, sets_of};
 ghost use Rattle.reduce.specs.Universal.{Universal, UniversalAt, ways};
 
 use book::{Book, TableIndex};
-use propagate::{ValueSets, rows_of, scope_of, support, trim};
+use propagate::{ValueSets, support, trim};
 use values::size;
 
 /// How many combinations of values the scope's sets have.
 fn combinations(scope: &[u8], sets: &[u32; 24]) -> usize
     requires few { length scope.now ≤ 4 }
-    requires known { (j : ℕ) → j < length scope.now → slice_index scope.now j < 24 }
+    requires known { All (λ x. x < 24) scope.now }
     ensures { result ≡ ways (placed sets.now) scope.now }
 {
     let mut all = 1;
-    for j in 0..scope.len() {
-        all *= size(sets[scope[j] as usize]);
+    for x in scope {
+        all *= size(sets[*x as usize]);
     }
     all
 }
@@ -29,8 +29,8 @@ pub(crate) fn covers(book: &Book, table: &TableIndex, sets: &[u32; 24]) -> bool
     requires { Has (tables_at book.now) table.now }
     ensures { Decides result (Universal (placed sets.now) (table_of (rows_at book.now) table.now)) }
 {
-    let scope = scope_of(table);
-    let rows = rows_of(book, table);
+    let scope = table.own_scope();
+    let rows = book.rows_of(table);
     let all = combinations(scope, sets);
     if all > rows.len() {
         return false;

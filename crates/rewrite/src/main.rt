@@ -1,15 +1,13 @@
 // Builds the sample book from a draft, writes it, reads it back and writes it again; then shows a draft that is refused.
 #![tactic(auto)]
 
-use book::{Book, Fault, Row};
+use book::{Book, Row};
 use draft::Draft;
-use made_drafts::sample;
+use made_drafts::{Numbered, sample};
 use std::io;
 
-fn show_refusal(rt: &HostRuntime, fault: Fault) -> io::Result<()> {
-    let number = fault.question.number();
-    let bit = fault.bit;
-    println!(rt; "It is refused by question {number} at bit {bit}.")
+fn show_refusal(rt: &HostRuntime, place: Numbered) -> io::Result<()> {
+    println!(rt; "It is refused by question {place}.")
 }
 
 fn show_bytes(rt: &HostRuntime, bytes: &[u8]) -> io::Result<()> {
@@ -31,7 +29,7 @@ fn write_again(rt: &HostRuntime, book: &Book, file: &[u8]) -> io::Result<()> {
             };
             println!(rt; "Written again, it has {n} bytes, and they are {same}.")
         }
-        Err(fault) => show_refusal(rt, fault),
+        Err(fault) => show_refusal(rt, Numbered(fault)),
     }
 }
 
@@ -45,7 +43,7 @@ fn read_back<'a>(rt: &HostRuntime, file: &'a [u8], rows: &'a mut [Row]) -> io::R
             println!(rt; "It is read as a book of {options} options and {tables} tables.")?;
             write_again(rt, &book, file)
         }
-        Err(fault) => show_refusal(rt, fault),
+        Err(fault) => show_refusal(rt, Numbered(fault)),
     }
 }
 
@@ -59,7 +57,7 @@ fn show_draft(rt: &HostRuntime, draft: &Draft) -> io::Result<()> {
             show_bytes(rt, &out[0..n])?;
             read_back(rt, &out[0..n], &mut rows)
         }
-        Err(fault) => show_refusal(rt, fault),
+        Err(fault) => show_refusal(rt, Numbered(fault)),
     }
 }
 

@@ -3,45 +3,25 @@ ghost use Rattle.std.specs.Prelude.{◌≡◌, ◌≤◌, true, length, is_ok, s
 ghost use Rattle.book.specs.Books.{contents};
 ghost use Rattle.shared.specs.Asking.{askable};
 
+use ask::{Work, places_of};
 use book::Book;
-use propagate::sizes_of;
 use questions::Question;
+use sheet::Person;
 
-/// All sizes together.
-fn all_sizes(book: &Book) -> usize
-    ensures { result ≡ sum (contents book.now).sizes }
+/// Asks the questions of an ask with these slices.
+pub fn askable(book: &Book, person: usize, budget: usize, work: &Work) -> Result<(), Question>
+    ensures value { result ≡ askable (contents book.now) person budget (length work.now.branches.now) (length work.now.trail.now) (length work.now.fit.now) }
+    ensures range { is_ok result ≡ true → (budget ≤ 1000000) × (sum (contents book.now).sizes ≤ length work.now.branches.now) × (sum (contents book.now).sizes ≤ length work.now.trail.now) × (length (contents book.now).sizes ≤ length work.now.fit.now) }
 {
-    let sizes = sizes_of(book);
-    let mut total = 0;
-    for size in sizes {
-        total += *size as usize;
-    }
-    total
-}
-
-/// Asks the questions of an ask, with slices of these lengths.
-pub fn askable(
-    book: &Book,
-    person: usize,
-    budget: usize,
-    branches: usize,
-    trail: usize,
-    fit: usize,
-) -> Result<(), Question>
-    ensures value { result ≡ askable (contents book.now) person budget branches trail fit }
-    ensures range { is_ok result ≡ true → (budget ≤ 1000000) × (sum (contents book.now).sizes ≤ branches) × (sum (contents book.now).sizes ≤ trail) × (length (contents book.now).sizes ≤ fit) }
-{
-    if person < 1 || person > 2 {
-        return Err(Question::Person);
-    }
+    Person::try_from(person)?;
     if budget < 1 || budget > 1000000 {
         return Err(Question::Budget);
     }
-    let places = all_sizes(book);
-    if branches < places || trail < places {
+    let places = places_of(book);
+    if work.branches.len() < places || work.trail.len() < places {
         return Err(Question::WorkRoom);
     }
-    if fit < sizes_of(book).len() {
+    if work.fit.len() < book.sizes().len() {
         return Err(Question::FitRoom);
     }
     Ok(())

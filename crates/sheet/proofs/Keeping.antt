@@ -1,9 +1,9 @@
 -- A sheet keeps what stands, call after call.
-use Rattle.std.proofs.Common.{◌≡◌, ℕ, ◌/◌, ◌%◌, ◌^◌, ◌<◌, ◌≤◌, Bool, true, false, not, ◌&&◌, ◌||◌, eqb, ltb, List, [], ◌∷◌, length, get_or, set, replicate, Ok, Result, sym, refl, ap, ◌∙◌, subst, inl, inr, ⊎_elim, arith, get_or-set_other, get_or-set_same, ltb-true, eq-eqb, eqb-true}
+use Rattle.std.proofs.Common.{◌≡◌, ℕ, ◌/◌, ◌%◌, ◌^◌, ◌<◌, ◌≤◌, Bool, true, false, not, ◌&&◌, ◌||◌, eqb, ltb, List, [], ◌∷◌, length, get_or, set, replicate, Ok, Err, Result, sym, refl, ap, ◌∙◌, subst, inl, inr, ⊎_elim, arith, get_or-set_other, get_or-set_same, ltb-true, eq-eqb, eqb-true}
 use lib.Bits.{bit_or, bit_xor}
 use borrow.Author.Tests.{clash}
 use Rattle.std.proofs.lemmas.List.{get_or-replicate}
-use Rattle.std.proofs.lemmas.Bool.{and_parts, and_from, cases_eq, not-true, both_ways}
+use Rattle.std.proofs.lemmas.Bool.{and_parts, and_from, or_left, or_right, cases_eq, not-true, both_ways, not_from_false, false_from_ne_true}
 use Rattle.questions.specs.declared.question.Question.{Question}
 use Rattle.grammar.specs.Contents.{Contents}
 use Rattle.book.specs.Books.{contents}
@@ -13,7 +13,9 @@ use Rattle.values.specs.Members.{In}
 use Rattle.values.proofs.Digits.{in_either, in_or, in_one, in_one_only, in_zero, in_out, out_in}
 use Rattle.sheet.specs.declared.decision.Kind.{Kind}
 use Rattle.sheet.specs.declared.decision.Kind.TheVariants.{Fix, Bar}
-use Rattle.sheet.specs.Decisions.{place_of, stands, is_person, ask, makes, withdraws, made, withdrawn}
+use Rattle.sheet.specs.declared.decision.Decision.{Decision}
+use Rattle.sheet.specs.Decisions.{place_of, stands, is_person, ask, known, makes, withdraws, made, withdrawn}
+use Rattle.sheet.specs.Named.{IsNamed, is_standing, with_made, with_withdrawn}
 use Rattle.sheet.specs.Runs as runs
 use Rattle.sheet.specs.Runs.{Call, same, is_same_kind, is_known, standing, Keeps}
 use Rattle.sheet.proofs.Unions.{person_cases}
@@ -23,14 +25,6 @@ agree true true f g = refl
 agree true false f g = absurd (clash (f refl))
 agree false true f g = absurd (clash (g refl))
 agree false false f g = refl
-
-or_left : (a b : Bool) → a ≡ true → (a || b) ≡ true
-or_left true b e = refl
-or_left false b e = absurd (clash e)
-
-or_right : (a b : Bool) → b ≡ true → (a || b) ≡ true
-or_right true b e = refl
-or_right false b e = e
 
 or_cases : {P : Type 0} (a b : Bool) → (a || b) ≡ true → (a ≡ true → P) → (b ≡ true → P) → P
 or_cases true b e f g = f refl
@@ -46,37 +40,22 @@ same_kind Fix Bar e = absurd (clash e)
 same_kind Bar Fix e = absurd (clash e)
 same_kind Bar Bar e = refl
 
+between : (p : ℕ) → is_person p ≡ true → (1 ≤ p) × (p ≤ 2)
+between p P = person_cases p P (λ e. (omega arith, omega arith)) (λ e. (omega arith, omega arith))
+
 -- two places are the same only of one person, kind and option
 one_place : (p q : ℕ) (k j : Kind) (x y : ℕ) → is_person p ≡ true → is_person q ≡ true → x < 24 → y < 24 → place_of p k x ≡ place_of q j y → (p ≡ q) × (k ≡ j) × (x ≡ y)
-one_place p q k j x y P Q X Y e = person_cases p P (λ a. person_cases q Q (λ b. go k j a b e) (λ b. go' k j a b e)) (λ a. person_cases q Q (λ b. go'' k j a b e) (λ b. go''' k j a b e))
+one_place p q k j x y P Q X Y e = go k j (between p P) (between q Q) e
   where
-    go : (k j : Kind) → p ≡ 1 → q ≡ 1 → place_of p k x ≡ place_of q j y → (p ≡ q) × (k ≡ j) × (x ≡ y)
+    go : (k j : Kind) → (1 ≤ p) × (p ≤ 2) → (1 ≤ q) × (q ≤ 2) → place_of p k x ≡ place_of q j y → (p ≡ q) × (k ≡ j) × (x ≡ y)
     go Fix Fix a b e = (omega arith, refl, omega arith)
     go Fix Bar a b e = absurd (omega arith)
     go Bar Fix a b e = absurd (omega arith)
     go Bar Bar a b e = (omega arith, refl, omega arith)
 
-    go' : (k j : Kind) → p ≡ 1 → q ≡ 2 → place_of p k x ≡ place_of q j y → (p ≡ q) × (k ≡ j) × (x ≡ y)
-    go' Fix Fix a b e = absurd (omega arith)
-    go' Fix Bar a b e = absurd (omega arith)
-    go' Bar Fix a b e = absurd (omega arith)
-    go' Bar Bar a b e = absurd (omega arith)
-
-    go'' : (k j : Kind) → p ≡ 2 → q ≡ 1 → place_of p k x ≡ place_of q j y → (p ≡ q) × (k ≡ j) × (x ≡ y)
-    go'' Fix Fix a b e = absurd (omega arith)
-    go'' Fix Bar a b e = absurd (omega arith)
-    go'' Bar Fix a b e = absurd (omega arith)
-    go'' Bar Bar a b e = absurd (omega arith)
-
-    go''' : (k j : Kind) → p ≡ 2 → q ≡ 2 → place_of p k x ≡ place_of q j y → (p ≡ q) × (k ≡ j) × (x ≡ y)
-    go''' Fix Fix a b e = (omega arith, refl, omega arith)
-    go''' Fix Bar a b e = absurd (omega arith)
-    go''' Bar Fix a b e = absurd (omega arith)
-    go''' Bar Bar a b e = (omega arith, refl, omega arith)
-
 place_inside : (p : ℕ) (k : Kind) (x : ℕ) → is_person p ≡ true → x < 24 → place_of p k x < 96
-place_inside p Fix x P X = person_cases p P (λ e. omega arith) (λ e. omega arith)
-place_inside p Bar x P X = person_cases p P (λ e. omega arith) (λ e. omega arith)
+place_inside p Fix x P X = let b = between p P in omega arith
+place_inside p Bar x P X = let b = between p P in omega arith
 
 -- the same pair
 same_so : (q : ℕ) (j : Kind) (y w p : ℕ) (k : Kind) (x v : ℕ) → same q j y w p k x v ≡ true → (p ≡ q) × (k ≡ j) × (x ≡ y) × (v ≡ w)
@@ -89,10 +68,6 @@ same_so q j y w p k x v e =
 so_same : (q : ℕ) (j : Kind) (y w p : ℕ) (k : Kind) (x v : ℕ) → p ≡ q → k ≡ j → x ≡ y → v ≡ w → same q j y w p k x v ≡ true
 so_same q j y w p k x v a b d e =
     and_from _ _ (eq-eqb p q a) (and_from _ _ (subst (λ i. is_same_kind k i ≡ true) b (kind_same k)) (and_from _ _ (eq-eqb x y d) (eq-eqb v w e)))
-
-other : (b : Bool) → (b ≡ true → ⊥) → not b ≡ true
-other true f = absurd (f refl)
-other false f = refl
 
 -- only what is known stands
 standing_known : (c : Contents) (calls : List Call) (p : ℕ) (k : Kind) (x v : ℕ) → standing c calls p k x v ≡ true → is_known c p x v ≡ true
@@ -162,13 +137,13 @@ module _ (c : Contents) (few : length c.sizes ≤ 24) (calls : List Call) (sets 
       let old : s ≡ get_or sets (place_of p k x) 0 = ap (λ n. get_or sets n 0) (sym e) in
       agree _ _
       (λ h. let o = out_in s w v w-in (subst (λ n. In n v) here (eqb-true _ 1 h)) in
-      and_from _ _ (other (same q j y w p k x v) (λ i. o.1 (same_so q j y w p k x v i).3)) (sym (so p k x v P X) ∙ eq-eqb _ 1 (subst (λ n. In n v) old o.0)))
+      and_from _ _ (not_from_false _ (false_from_ne_true (same q j y w p k x v) (λ i. o.1 (same_so q j y w p k x v i).3))) (sym (so p k x v P X) ∙ eq-eqb _ 1 (subst (λ n. In n v) old o.0)))
       (λ h. let b = and_parts (not (same q j y w p k x v)) _ h in
       eq-eqb _ 1 (subst (λ n. In n v) (sym here) (in_out s w v (subst (λ n. In n v) (sym old) (eqb-true _ 1 (so p k x v P X ∙ b.1)))
       (λ i. both_ways _ (not-true _ b.0) (so_same q j y w p k x v one.0 one.1 one.2 i))))))
       (λ ne.
       let there : get_or new (place_of p k x) 0 ≡ get_or sets (place_of p k x) 0 = get_or-set_other sets at (place_of p k x) (bit_xor s (2 ^ w)) 0 ne in
-      let apart : not (same q j y w p k x v) ≡ true = other (same q j y w p k x v) (λ i. let s = same_so q j y w p k x v i in ne (λ t. place_of (s.0 t) (s.1 t) (s.2 t))) in
+      let apart : not (same q j y w p k x v) ≡ true = not_from_false _ (false_from_ne_true (same q j y w p k x v) (λ i. let s = same_so q j y w p k x v i in ne (λ t. place_of (s.0 t) (s.1 t) (s.2 t)))) in
       agree _ _
       (λ h. and_from _ _ apart (sym (so p k x v P X) ∙ ap (λ n. eqb (n / 2 ^ v % 2) 1) (sym there) ∙ h))
       (λ h. ap (λ n. eqb (n / 2 ^ v % 2) 1) there ∙ so p k x v P X ∙ (and_parts (not (same q j y w p k x v)) _ h).1))
@@ -178,9 +153,9 @@ module _ (c : Contents) (few : length c.sizes ≤ 24) (calls : List Call) (sets 
   keeps_standing had p k x v P X =
       agree _ _
       (λ h. and_from _ _
-      (other (same q j y w p k x v) (λ i. let s = same_so q j y w p k x v i in
+      (not_from_false _ (false_from_ne_true (same q j y w p k x v) (λ i. let s = same_so q j y w p k x v i in
       let known = subst (λ n. is_known c q y n ≡ true) s.3 (subst (λ n. is_known c q n v ≡ true) s.2 (subst (λ n. is_known c n x v ≡ true) s.0 (standing_known c calls p k x v (sym (so p k x v P X) ∙ h)))) in
-      both_ways _ (had known) (sym (stands_same p k x v s.0 s.1 s.2 s.3) ∙ h)))
+      both_ways _ (had known) (sym (stands_same p k x v s.0 s.1 s.2 s.3) ∙ h))))
       (sym (so p k x v P X) ∙ h))
       (λ h. so p k x v P X ∙ (and_parts (not (same q j y w p k x v)) _ h).1)
 
@@ -226,13 +201,34 @@ known_parts c few q y w k =
     let lt = ltb-true y (length c.sizes) (and_parts (ltb y (length c.sizes)) _ a.1).0 in
     (a.0, omega arith)
 
--- the same of a read book, by what the calls promise
-module _ (b : Book) (calls : List Call) (sets after : List ℕ) (long : length sets ≡ 96) (so : Keeps (contents b) calls sets) (q : ℕ) (j : Kind) (y w : ℕ) (r : Result (Unit {0}) Question) where
+-- the same of a read book, by what a call was told of the decision that it names
+module _ (b : Book) (sets : List ℕ) (long : length sets ≡ 96) (q : ℕ) (j : Kind) (y w : ℕ) where
   few : length (contents b).sizes ≤ 24
   few = (valid_out (contents b) b.valid).few
 
-  pub keeps_makes_as : r ≡ makes (contents b) sets q j y w → after ≡ made r sets q j y w → Keeps (contents b) (runs.making q j y w ∷ calls) after
-  keeps_makes_as is then = subst (Keeps (contents b) (runs.making q j y w ∷ calls)) (sym then) (keeps_makes (contents b) few calls sets long so q j y w (known_parts (contents b) few q y w) r is)
+  -- a question was answered no
+  module _ (e : Question) (asked : (then : Result (Unit {0}) Question) → known (contents b) q y w then ≡ Err e) (calls : List Call) (so : Keeps (contents b) calls sets) where
+    pub keeps_unmade : Keeps (contents b) (runs.making q j y w ∷ calls) sets
+    keeps_unmade = keeps_makes (contents b) few calls sets long so q j y w (known_parts (contents b) few q y w) (Err e) (sym (asked _))
 
-  pub keeps_withdraws_as : r ≡ withdraws (contents b) sets q j y w → after ≡ withdrawn r sets q j y w → Keeps (contents b) (runs.withdrawing q j y w ∷ calls) after
-  keeps_withdraws_as is then = subst (Keeps (contents b) (runs.withdrawing q j y w ∷ calls)) (sym then) (keeps_withdraws (contents b) few calls sets long so q j y w (known_parts (contents b) few q y w) r is)
+    pub keeps_unwithdrawn : Keeps (contents b) (runs.withdrawing q j y w ∷ calls) sets
+    keeps_unwithdrawn = keeps_withdraws (contents b) few calls sets long so q j y w (known_parts (contents b) few q y w) (Err e) (sym (asked _))
+
+  -- the decision is this
+  module _ (d : Decision) (asked : (then : Result (Unit {0}) Question) → IsNamed q j y w d × (known (contents b) q y w then ≡ then)) (r : Result (Unit {0}) Question) (after : List ℕ) where
+    named : IsNamed q j y w d
+    named = (asked (Ok tt)).0
+
+    pub made_named : after ≡ with_made r sets d → after ≡ made r sets q j y w
+    made_named e = e ∙ (λ t. made r sets (named.by t) (named.of t) (named.on t) (named.about t))
+
+    pub withdrawn_named : after ≡ with_withdrawn r sets d → after ≡ withdrawn r sets q j y w
+    withdrawn_named e = e ∙ (λ t. withdrawn r sets (named.by t) (named.of t) (named.on t) (named.about t))
+
+    pub keeps_made_named : r ≡ ask (not (is_standing sets d)) Question.NotStanding (Ok tt) → after ≡ with_made r sets d → (calls : List Call) → Keeps (contents b) calls sets → Keeps (contents b) (runs.making q j y w ∷ calls) after
+    keeps_made_named e f calls so = subst (Keeps (contents b) (runs.making q j y w ∷ calls)) (sym (made_named f)) (keeps_makes (contents b) few calls sets long so q j y w (known_parts (contents b) few q y w) r
+        (e ∙ (λ t. ask (not (stands sets (named.by t) (named.of t) (named.on t) (named.about t))) Question.NotStanding (Ok tt)) ∙ sym (asked _).1))
+
+    pub keeps_withdrawn_named : r ≡ ask (is_standing sets d) Question.Standing (Ok tt) → after ≡ with_withdrawn r sets d → (calls : List Call) → Keeps (contents b) calls sets → Keeps (contents b) (runs.withdrawing q j y w ∷ calls) after
+    keeps_withdrawn_named e f calls so = subst (Keeps (contents b) (runs.withdrawing q j y w ∷ calls)) (sym (withdrawn_named f)) (keeps_withdraws (contents b) few calls sets long so q j y w (known_parts (contents b) few q y w) r
+        (e ∙ (λ t. ask (stands sets (named.by t) (named.of t) (named.on t) (named.about t)) Question.Standing (Ok tt)) ∙ sym (asked _).1))

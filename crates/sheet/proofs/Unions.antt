@@ -6,7 +6,8 @@ use Rattle.values.specs.Members.{In}
 use Rattle.values.proofs.Digits.{in_one_only, in_either, in_or, no_values, same_from_values, in_one}
 use Rattle.sheet.specs.declared.decision.Kind.{Kind}
 use Rattle.sheet.specs.Decisions.{place_of, stands, is_person}
-use Rattle.sheet.specs.Starts.{ByAny}
+use Rattle.sheet.specs.declared.decision.Kind.TheVariants.{Fix, Bar}
+use Rattle.sheet.specs.Starts.{Standing, ByAny, Leaves, Spares}
 
 second : (a b : Bool) → cond a b false ≡ true → b ≡ true
 second true b e = e
@@ -31,6 +32,14 @@ module _ (sets : List ℕ) (kind : Kind) (option one two : ℕ) (e : one ≡ pla
       person_cases h.0 h.1
       (λ p. in_or (get_or sets one 0) (get_or sets two 0) v (inl (subst (λ k. In (get_or sets k 0) v) (ap (λ q. place_of q kind option) p ∙ sym e) is)))
       (λ p. in_or (get_or sets one 0) (get_or sets two 0) v (inr (subst (λ k. In (get_or sets k 0) v) (ap (λ q. place_of q kind option) p ∙ sym f) is)))
+
+-- the sets of the values fixed and barred by any leave a value where the decisions do
+module _ (decided : Standing) (option fixed barred : ℕ) where
+  pub spared_leaves : ((v : ℕ) → ByAny decided Fix option v → In fixed v) → ((v : ℕ) → ByAny decided Bar option v → In barred v) → (v : ℕ) → Spares fixed barred v → Leaves decided option v
+  spared_leaves f b v s = record { fixed = λ w h. s.alone w (f w h); barred = λ h. s.allowed (b v h) }
+
+  pub left_spares : ((v : ℕ) → In fixed v → ByAny decided Fix option v) → ((v : ℕ) → In barred v → ByAny decided Bar option v) → (v : ℕ) → Leaves decided option v → Spares fixed barred v
+  left_spares f b v l = record { alone = λ w h. l.fixed w (f w h); allowed = λ h. l.barred (b v h) }
 
 -- a set that has no value but one is empty or the set of that value
 pub alone_is : (s v : ℕ) → ((w : ℕ) → In s w → w ≡ v) → (s ≡ 0) ⊎ (s ≡ 2 ^ v)

@@ -19,6 +19,11 @@ pub record Leaves (stands : Standing) (option value : ℕ) : Type 0 where
   pub fixed : (other : ℕ) → ByAny stands Fix option other → other ≡ value
   pub barred : ByAny stands Bar option value → ⊥
 
+-- a set of fixed values and a set of barred ones leave a value
+pub record Spares (fixed barred value : ℕ) : Type 0 where
+  pub alone : (other : ℕ) → In fixed other → other ≡ value
+  pub allowed : In barred value → ⊥
+
 -- The starting sets give each option of the book those of its values that the decisions leave. Sets may be empty.
 pub record Starts (c : Contents) (stands : Standing) (array : List ℕ) : Type 0 where
   pub long : length array ≡ 24

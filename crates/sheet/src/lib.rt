@@ -3,6 +3,8 @@
 
 mod decision;
 mod open;
+mod person;
 
 pub use decision::Kind;
 pub use open::Sheet;
+pub use person::Person;

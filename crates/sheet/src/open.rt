@@ -1,52 +1,22 @@
 // The open sheet: what stands on it, and the calls that change it.
-ghost use Rattle.std.specs.Prelude.{◌≡◌, ◌<◌, ◌≤◌, true, false, not, List, [], ◌∷◌, length, replicate, is_ok, Ok};
+ghost use Rattle.std.specs.Prelude.{◌≡◌, not, List, [], ◌∷◌, length, replicate, Ok};
 ghost use Rattle.book.specs.Books.{contents};
 ghost use Rattle.sheet.specs.Runs.{Call, Keeps, making, withdrawing};
-ghost use Rattle.sheet.specs.Decisions.{known, makes, made, place_of, stands, withdraws, withdrawn};
+ghost use Rattle.sheet.specs.Decisions.{ask, makes, made, withdraws, withdrawn};
+ghost use Rattle.sheet.specs.Named.{is_standing, with_made, with_withdrawn};
 
-use crate::decision::Kind;
+use crate::decision::{Decision, Kind};
 use book::Book;
-use propagate::sizes_of;
 use questions::Question;
-use values::only;
+use values::{has, only};
 
 /// An open sheet: for each person, kind of decision and option, the set of values about which the person has decided so.
 /// Value v is worth 2 to the power v.
 #[derive(Drop)]
 pub struct Sheet {
+    // One flat array: a sheet is a moved value of plain numbers, and its definitions speak of one list by the places in it.
     sets: [u32; 96],
     ghost long: { length sets ≡ 96 },
-}
-
-/// Where the set of a person, a kind and an option is kept.
-fn place(person: usize, kind: Kind, option: usize) -> usize
-    requires person { (1 ≤ person) × (person ≤ 2) }
-    requires option { option < 24 }
-    ensures value { result ≡ place_of person kind option }
-    ensures inside { result < 96 }
-{
-    match kind {
-        Kind::Fix => 48 * (person - 1) + option,
-        Kind::Bar => 48 * (person - 1) + 24 + option,
-    }
-}
-
-/// Asks whether the person is one of the two, the book has the option, and the option the value.
-fn ask_known(book: &Book, person: usize, option: usize, value: usize) -> Result<(), Question>
-    ensures value { result ≡ known (contents book.now) person option value (Ok tt) }
-    ensures range { is_ok result ≡ true → (1 ≤ person) × (person ≤ 2) × (option < 24) × (value < 32) }
-{
-    if person < 1 || person > 2 {
-        return Err(Question::Person);
-    }
-    let sizes = sizes_of(book);
-    if option >= sizes.len() {
-        return Err(Question::OptionKnown);
-    }
-    if value >= sizes[option] as usize {
-        return Err(Question::ValueKnown);
-    }
-    Ok(())
 }
 
 impl Sheet {
@@ -57,60 +27,43 @@ impl Sheet {
         Sheet { sets: [0; 96] }
     }
 
-    /// Whether a decision of a person stands.
-    fn stands(&self, person: usize, kind: Kind, option: usize, value: usize) -> bool
-        requires person { (1 ≤ person) × (person ≤ 2) }
-        requires option { option < 24 }
-        requires value { value < 32 }
-        ensures { result ≡ stands self.now.sets person kind option value }
+    /// Whether a decision stands.
+    fn stands(&self, decision: Decision) -> bool
+        ensures { result ≡ is_standing self.now.sets decision }
     {
-        let set = self.sets[place(person, kind, option)];
-        (set >> value) % 2 == 1
+        has(self.sets[decision.place()], decision.value)
     }
 
-    /// Makes a decision of a person, which does not stand yet.
-    fn make(
-        &mut self,
-        book: &Book,
-        person: usize,
-        kind: Kind,
-        option: usize,
-        value: usize,
-    ) -> Result<(), Question>
-        ensures value { result ≡ makes (contents book.now) self.old.sets person kind option value }
-        ensures sheet { self.new.sets ≡ made result self.old.sets person kind option value }
+    // Two functions: one for both would ask three times which of them it is, for what stands, for the refusal and for the step.
+    /// Makes a decision, which does not stand yet.
+    fn make(&mut self, decision: Decision) -> Result<(), Question>
+        ensures value { result ≡ ask (not (is_standing self.old.sets decision)) Question.NotStanding (Ok tt) }
+        ensures sheet { self.new.sets ≡ with_made result self.old.sets decision }
     {
-        ask_known(book, person, option, value)?;
-        if self.stands(person, kind, option, value) {
+        if self.stands(decision) {
             return Err(Question::NotStanding);
         }
-        let at = place(person, kind, option);
-        self.sets[at] |= only(value as u8);
+        let at = decision.place();
+        self.sets[at] |= only(decision.value);
         Ok(())
     }
 
-    /// Withdraws a decision of a person, which stands.
-    fn withdraw(
-        &mut self,
-        book: &Book,
-        person: usize,
-        kind: Kind,
-        option: usize,
-        value: usize,
-    ) -> Result<(), Question>
-        ensures value { result ≡ withdraws (contents book.now) self.old.sets person kind option value }
-        ensures sheet { self.new.sets ≡ withdrawn result self.old.sets person kind option value }
+    /// Withdraws a decision, which stands.
+    fn withdraw(&mut self, decision: Decision) -> Result<(), Question>
+        ensures value { result ≡ ask (is_standing self.old.sets decision) Question.Standing (Ok tt) }
+        ensures sheet { self.new.sets ≡ with_withdrawn result self.old.sets decision }
     {
-        ask_known(book, person, option, value)?;
-        if !self.stands(person, kind, option, value) {
+        if !self.stands(decision) {
             return Err(Question::Standing);
         }
-        let at = place(person, kind, option);
-        self.sets[at] ^= only(value as u8);
+        let at = decision.place();
+        self.sets[at] ^= only(decision.value);
         Ok(())
     }
 }
 
+// Four calls that differ in a kind and a step, since these are the four that the rules name. Person, option and value are numbers of the caller's,
+// since questions ask about them.
 impl Sheet {
     /// Fixes an option to a value, for a person.
     pub fn fix(
@@ -124,7 +77,7 @@ impl Sheet {
         ensures sheet { self.new.sets ≡ made result self.old.sets person Kind.Fix option value }
         ensures stands { (calls : List Call) → Keeps (contents book.now) calls self.old.sets → Keeps (contents book.now) (making person Kind.Fix option value ∷ calls) self.new.sets }
     {
-        self.make(book, person, Kind::Fix, option, value)
+        self.make(Decision::ask(book, person, Kind::Fix, option, value)?)
     }
 
     /// Bars a value of an option, for a person.
@@ -139,7 +92,7 @@ impl Sheet {
         ensures sheet { self.new.sets ≡ made result self.old.sets person Kind.Bar option value }
         ensures stands { (calls : List Call) → Keeps (contents book.now) calls self.old.sets → Keeps (contents book.now) (making person Kind.Bar option value ∷ calls) self.new.sets }
     {
-        self.make(book, person, Kind::Bar, option, value)
+        self.make(Decision::ask(book, person, Kind::Bar, option, value)?)
     }
 
     /// Withdraws a person's fix of an option to a value; the other person's stays.
@@ -154,7 +107,7 @@ impl Sheet {
         ensures sheet { self.new.sets ≡ withdrawn result self.old.sets person Kind.Fix option value }
         ensures stands { (calls : List Call) → Keeps (contents book.now) calls self.old.sets → Keeps (contents book.now) (withdrawing person Kind.Fix option value ∷ calls) self.new.sets }
     {
-        self.withdraw(book, person, Kind::Fix, option, value)
+        self.withdraw(Decision::ask(book, person, Kind::Fix, option, value)?)
     }
 
     /// Withdraws a person's bar of a value; the other person's stays.
@@ -169,7 +122,7 @@ impl Sheet {
         ensures sheet { self.new.sets ≡ withdrawn result self.old.sets person Kind.Bar option value }
         ensures stands { (calls : List Call) → Keeps (contents book.now) calls self.old.sets → Keeps (contents book.now) (withdrawing person Kind.Bar option value ∷ calls) self.new.sets }
     {
-        self.withdraw(book, person, Kind::Bar, option, value)
+        self.withdraw(Decision::ask(book, person, Kind::Bar, option, value)?)
     }
 }
 

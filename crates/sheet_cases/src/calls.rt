@@ -1,4 +1,5 @@
 // Calls on a sheet, and calls at random.
+use arrayvec::ArrayVec;
 use made_books::{Dice, Plan};
 use sheet::Kind;
 
@@ -11,6 +12,13 @@ pub struct Decision {
     pub value: usize,
 }
 
+/// What becomes of a decision.
+#[derive(Clone, Copy)]
+pub enum Act {
+    Make,
+    Withdraw,
+}
+
 /// An ask, with the lengths of its slices.
 #[derive(Clone, Copy)]
 pub struct Request {
@@ -21,19 +29,17 @@ pub struct Request {
     pub fit: usize,
 }
 
-/// Values to issue the sheet with, in the first places of a slice of this length.
-#[derive(Clone, Copy)]
+/// Values to issue the sheet with.
+#[derive(Drop)]
 pub struct Offer {
     pub person: usize,
-    pub places: usize,
-    pub values: [u8; FIT],
+    pub values: ArrayVec<u8, FIT>,
 }
 
 /// A call on a sheet.
-#[derive(Clone, Copy)]
+#[derive(Drop)]
 pub enum Call {
-    Make(Decision),
-    Withdraw(Decision),
+    Decide(Act, Decision),
     Ask(Request),
     /// Whether the sheet may be issued with these values.
     Issue(Offer),
@@ -49,6 +55,7 @@ pub const FIT: usize = 12;
 pub const DECISIONS: usize = 128;
 
 /// The decision with this number.
+// The number is the place in the table of what stands, and one loop over numbers goes through all decisions.
 pub fn numbered(number: usize) -> Decision {
     Decision {
         person: number / 64 % 2 + 1,
@@ -62,13 +69,19 @@ pub fn numbered(number: usize) -> Decision {
     }
 }
 
+/// The size of an option, 0 where there is none.
+pub fn size_of(plan: &Plan, option: usize) -> usize {
+    match plan.sizes.get(option) {
+        Some(size) => *size as usize,
+        None => 0,
+    }
+}
+
 /// All sizes of a plan together.
 pub fn all_sizes(plan: &Plan) -> usize {
-    let mut total = 0usize;
-    for size in plan.sizes.iter().take(plan.options) {
-        total = total.wrapping_add(*size);
-    }
-    total
+    plan.sizes
+        .iter()
+        .fold(0usize, |total, size| total.wrapping_add(*size as usize))
 }
 
 /// Mostly 1 or 2, sometimes 0 or 3.
@@ -112,8 +125,7 @@ fn random_budget(dice: &mut Dice) -> usize {
 }
 
 pub fn random_decision(dice: &mut Dice, plan: &Plan) -> Decision {
-    let option = random_place(dice, plan.options);
-    let size = plan.sizes[option % 24];
+    let option = random_place(dice, plan.sizes.len());
     Decision {
         person: random_person(dice),
         kind: if dice.below(4) == 0 {
@@ -122,7 +134,7 @@ pub fn random_decision(dice: &mut Dice, plan: &Plan) -> Decision {
             Kind::Bar
         },
         option,
-        value: random_place(dice, size),
+        value: random_place(dice, size_of(plan, option)),
     }
 }
 
@@ -133,16 +145,15 @@ pub fn random_request(dice: &mut Dice, plan: &Plan) -> Request {
         budget: random_budget(dice),
         branches: random_length(dice, places),
         trail: random_length(dice, places),
-        fit: random_length(dice, plan.options),
+        fit: random_length(dice, plan.sizes.len()),
     }
 }
 
 /// Values at random, most of which the options have.
 fn random_values(dice: &mut Dice, plan: &Plan) -> [u8; FIT] {
     let mut values = [0; FIT];
-    for x in 0..FIT {
-        let size = plan.sizes[x];
-        values[x] = (random_place(dice, size) % 256) as u8;
+    for (option, value) in values.iter_mut().enumerate() {
+        *value = (random_place(dice, size_of(plan, option)) % 256) as u8;
     }
     values
 }
@@ -151,15 +162,11 @@ fn random_values(dice: &mut Dice, plan: &Plan) -> [u8; FIT] {
 pub fn random_offer(dice: &mut Dice, plan: &Plan, known: Option<[u8; FIT]>) -> Offer {
     let random = random_values(dice, plan);
     let keep = dice.below(4) > 0;
-    let values = match known {
-        Some(fit) if keep => fit,
-        _ => random,
-    };
-    Offer {
-        person: random_person(dice),
-        places: random_length(dice, plan.options),
-        values,
-    }
+    let offered = known.filter(|_| keep).unwrap_or(random);
+    let person = random_person(dice);
+    let mut values = ArrayVec::from(offered);
+    values.truncate(random_length(dice, plan.sizes.len()));
+    Offer { person, values }
 }
 
 /// An ask whose slices just suffice, with the largest budget.
@@ -170,6 +177,6 @@ pub fn full_request(plan: &Plan) -> Request {
         budget: 1000000,
         branches: places,
         trail: places,
-        fit: plan.options,
+        fit: plan.sizes.len(),
     }
 }

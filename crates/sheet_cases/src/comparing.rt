@@ -1,15 +1,16 @@
 // The calls of a script on one sheet, over one store, each compared with what is to come of it.
 use crate::calls::{Call, FIT};
 use crate::obeying::{Came, Reply, issues, obey};
-use crate::scripts::{Expected, Line, Plain, untouched};
+use crate::scripts::{Expected, Line, Plain};
 use ask::{Answer, Asked};
 use book::Book;
+use made_books::untouched;
 use shared::open_on;
 use sheet::Sheet;
 use store::Store;
 
-/// What came of the calls so far. Trials are counted for each store, by its number.
-#[derive(Drop)]
+/// What came of the calls so far; the refusals by the numbers of their questions.
+#[derive(Default, Drop)]
 pub struct Tally {
     pub calls: usize,
     pub decisions: usize,
@@ -19,7 +20,6 @@ pub struct Tally {
     pub nones: usize,
     pub stops: usize,
     pub refusals: [usize; 24],
-    pub trials: [usize; 5],
     pub differences: usize,
 }
 
@@ -29,43 +29,27 @@ pub fn raise(count: &mut usize) {
 }
 
 impl Tally {
-    pub fn new() -> Tally {
-        Tally {
-            calls: 0,
-            decisions: 0,
-            granted: 0,
-            orders: 0,
-            fits: 0,
-            nones: 0,
-            stops: 0,
-            refusals: [0; 24],
-            trials: [0; 5],
-            differences: 0,
-        }
-    }
-
-    /// Counts an answer of a store.
-    fn note_answer(&mut self, store: usize, asked: &Asked) {
-        let place = store % 5;
-        self.trials[place] = self.trials[place].wrapping_add(asked.count as usize);
-        match asked.answer {
+    /// Counts an answer.
+    fn note_answer(&mut self, answer: Answer) {
+        match answer {
             Answer::Fit => raise(&mut self.fits),
             Answer::None => raise(&mut self.nones),
             Answer::Stopped => raise(&mut self.stops),
         }
     }
 
-    /// Counts a call on a sheet over a store.
-    fn note(&mut self, store: usize, reply: &Reply) {
+    /// Counts a call on a sheet.
+    fn note(&mut self, came: &Came) {
         raise(&mut self.calls);
-        match reply {
-            Reply::Refused(number) => {
-                let place = *number as usize % 24;
-                self.refusals[place] = self.refusals[place].wrapping_add(1);
+        match came.reply {
+            Err(question) => {
+                if let Some(count) = self.refusals.get_mut(question.number() as usize) {
+                    raise(count);
+                }
             }
-            Reply::Done => raise(&mut self.decisions),
-            Reply::Granted => raise(&mut self.granted),
-            Reply::Answered(asked) => self.note_answer(store, asked),
+            Ok(Reply::Done) => raise(&mut self.decisions),
+            Ok(Reply::Granted) => raise(&mut self.granted),
+            Ok(Reply::Answered(asked)) => self.note_answer(asked.answer),
         }
     }
 }
@@ -99,14 +83,11 @@ fn as_many(asked: &Asked, plain: &Plain, budget: usize) -> bool {
 
 /// Whether what came is what was to come; a sheet without memory is to take just as many trials as the plain ask.
 fn agrees(line: &Line, came: &Came, memory: bool) -> bool {
-    match (line.expected, came.reply, line.call) {
-        (Expected::Refused(wanted), Reply::Refused(number), _) => {
-            wanted == number && untouched(&came.fit)
-        }
-        (Expected::Done, Reply::Done, _) | (Expected::Granted, Reply::Granted, _) => {
-            untouched(&came.fit)
-        }
-        (Expected::Plain(plain), Reply::Answered(asked), Call::Ask(request)) => {
+    match (line.expected, came.reply, &line.call) {
+        (Err(wanted), Err(question), _) => wanted == question && untouched(&came.fit),
+        (Ok(Expected::Done), Ok(Reply::Done), _) | (Ok(Expected::Granted), Ok(Reply::Granted), _) =>
+            untouched(&came.fit),
+        (Ok(Expected::Plain(plain)), Ok(Reply::Answered(asked)), Call::Ask(request)) => {
             agrees_with(&asked, came, &plain, request.budget)
                 && (memory || as_many(&asked, &plain, request.budget))
         }
@@ -123,29 +104,44 @@ fn closes(sheet: Sheet, book: &Book, told: &[u8; FIT], tally: &mut Tally) -> boo
     issued != untouched(told)
 }
 
-/// The calls on a sheet opened over the store, the last of which is an ask; then the sheet is issued if that told a fit. The number
-/// of the first call that differs.
+/// How the calls on a sheet went over one store: how many trials they took, and the number of the first call that differs.
+#[derive(Clone, Copy)]
+pub struct Run {
+    pub trials: usize,
+    pub differs: Option<usize>,
+}
+
+/// The calls on a sheet opened over the store, with or without memory, the last of which is an ask; then the sheet is issued if that
+/// told a fit.
 pub fn compare<S: Store>(
     book: &Book,
     script: &[Line],
     store: &mut S,
-    number: usize,
+    memory: bool,
     tally: &mut Tally,
-) -> Option<usize> {
+) -> Run {
     let mut sheet = open_on(book, store);
     let mut last = [255; FIT];
+    let mut trials = 0usize;
     for (at, line) in script.iter().enumerate() {
         let came = obey(&line.call, book, &mut sheet, store);
-        tally.note(number, &came.reply);
-        if !agrees(line, &came, number > 0) {
+        tally.note(&came);
+        if let Ok(Reply::Answered(asked)) = came.reply {
+            trials = trials.wrapping_add(asked.count as usize);
+        }
+        if !agrees(line, &came, memory) {
             raise(&mut tally.differences);
-            return Some(at);
+            return Run {
+                trials,
+                differs: Some(at),
+            };
         }
         last = came.fit;
     }
+    let mut differs = None;
     if !closes(sheet, book, &last, tally) {
         raise(&mut tally.differences);
-        return Some(script.len());
+        differs = Some(script.len());
     }
-    None
+    Run { trials, differs }
 }

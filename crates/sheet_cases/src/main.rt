@@ -10,9 +10,9 @@ mod plans;
 mod scripts;
 mod standing;
 
-use crate::comparing::{Tally, compare, raise};
+use crate::comparing::{Run, Tally, compare, raise};
 use crate::plans::{has_barren, has_unmentioned};
-use crate::scripts::{Line, script};
+use crate::scripts::{Line, make_script};
 use book::{Book, Row};
 use forgetful::ForgetfulStore;
 use made_books::{Dice, Plan, build, random_plan};
@@ -26,7 +26,7 @@ const BOOKS: usize = 3000;
 const CALLS: usize = 30;
 
 /// How many books have a table that allows nothing, and how many an option that is in no table.
-#[derive(Drop)]
+#[derive(Default, Drop)]
 struct Shapes {
     barren: usize,
     unmentioned: usize,
@@ -52,81 +52,99 @@ struct Stores {
     forgetful: ForgetfulStore,
 }
 
+/// The trials of each store.
+#[derive(Default, Drop)]
+struct Trials {
+    blank: usize,
+    ring: usize,
+    few: usize,
+    many: usize,
+    forgetful: usize,
+}
+
+impl Trials {
+    fn add(&mut self, runs: &[Run; 5]) {
+        let [blank, ring, few, many, forgetful] = *runs;
+        self.blank = self.blank.wrapping_add(blank.trials);
+        self.ring = self.ring.wrapping_add(ring.trials);
+        self.few = self.few.wrapping_add(few.trials);
+        self.many = self.many.wrapping_add(many.trials);
+        self.forgetful = self.forgetful.wrapping_add(forgetful.trials);
+    }
+}
+
 /// The script on a sheet over a store of slots.
-fn compare_slots(
-    book: &Book,
-    script: &[Line],
-    slots: &mut [Slot],
-    number: usize,
-    tally: &mut Tally,
-) -> Option<usize> {
+fn compare_slots(book: &Book, script: &[Line], slots: &mut [Slot], tally: &mut Tally) -> Run {
     match SlotStore::check(slots) {
-        Ok(()) => compare(book, script, &mut SlotStore::over(slots), number, tally),
+        Ok(()) => compare(book, script, &mut SlotStore::over(slots), true, tally),
         Err(_) => {
             raise(&mut tally.differences);
-            Some(0)
+            Run {
+                trials: 0,
+                differs: Some(0),
+            }
         }
     }
 }
 
-/// The script on a sheet over each store: of each the number of the first call that differs.
-fn compare_all(
-    book: &Book,
-    script: &[Line],
-    stores: &mut Stores,
-    tally: &mut Tally,
-) -> [Option<usize>; 5] {
-    [
-        compare(book, script, &mut BlankStore, 0, tally),
-        compare(book, script, &mut stores.ring, 1, tally),
-        compare_slots(book, script, &mut stores.few, 2, tally),
-        compare_slots(book, script, &mut stores.many, 3, tally),
-        compare(book, script, &mut stores.forgetful, 4, tally),
-    ]
+/// The books that were tried, with the stores that are kept from one to the next.
+#[derive(Drop)]
+struct Cases<'a> {
+    rt: &'a HostRuntime,
+    stores: Stores,
+    shapes: Shapes,
+    tally: Tally,
+    trials: Trials,
 }
 
-/// The calls on the book that a file holds; a difference is told by its seed, store and call.
-fn try_file<'a>(
-    rt: &HostRuntime,
-    file: &'a [u8],
-    rows: &'a mut [Row],
-    plan: &Plan,
-    seed: usize,
-    dice: &mut Dice,
-    stores: &mut Stores,
-    tally: &mut Tally,
-) -> io::Result<()> {
-    let Ok(index) = book::read(file, rows) else {
-        raise(&mut tally.differences);
-        return println!(rt; "  DIFFERENT at seed {seed}: the file is refused");
-    };
-    let book = Book::open(file, rows, index);
-    let lines = script(rt.alloc(), &book, plan, dice, CALLS)?;
-    let found = compare_all(&book, &lines, stores, tally);
-    for (store, first) in found.iter().enumerate() {
-        if let Some(call) = first {
-            println!(rt; "  DIFFERENT at seed {seed}, store {store}, call {call}")?;
-        }
+impl Cases<'_> {
+    /// The script on a sheet over each store: of each the number of the first call that differs.
+    fn compare_all(&mut self, book: &Book, script: &[Line]) -> [Option<usize>; 5] {
+        let tally = &mut self.tally;
+        let stores = &mut self.stores;
+        let runs = [
+            compare(book, script, &mut BlankStore, false, tally),
+            compare(book, script, &mut stores.ring, true, tally),
+            compare_slots(book, script, &mut stores.few, tally),
+            compare_slots(book, script, &mut stores.many, tally),
+            compare(book, script, &mut stores.forgetful, true, tally),
+        ];
+        self.trials.add(&runs);
+        runs.map(|run| run.differs)
     }
-    Ok(())
-}
 
-/// A book for each seed.
-fn try_books(
-    rt: &HostRuntime,
-    rows: &mut [Row],
-    stores: &mut Stores,
-    shapes: &mut Shapes,
-    tally: &mut Tally,
-) -> io::Result<()> {
-    for seed in 0..BOOKS {
+    /// The calls on a book; a difference is told by its seed, store and call.
+    fn try_book(
+        &mut self,
+        book: &Book,
+        plan: &Plan,
+        seed: usize,
+        dice: &mut Dice,
+    ) -> io::Result<()> {
+        let rt = self.rt;
+        let lines = make_script(rt.alloc(), book, plan, dice, CALLS)?;
+        for (store, first) in self.compare_all(book, &lines).iter().enumerate() {
+            if let Some(call) = first {
+                println!(rt; "  DIFFERENT at seed {seed}, store {store}, call {call}")?;
+            }
+        }
+        Ok(())
+    }
+
+    /// The random book of a seed.
+    fn try_seed(&mut self, rows: &mut [Row], seed: usize) -> io::Result<()> {
+        let rt = self.rt;
         let mut dice = Dice::new(seed.wrapping_mul(0x9e3779b97f4a7c15));
         let plan = random_plan(rt.alloc(), &mut dice)?;
-        shapes.note(&plan);
+        self.shapes.note(&plan);
         let file = build(rt.alloc(), &plan)?;
-        try_file(rt, &file, rows, &plan, seed, &mut dice, stores, tally)?;
+        let Ok(index) = book::read(&file, rows) else {
+            raise(&mut self.tally.differences);
+            return println!(rt; "  DIFFERENT at seed {seed}: the file is refused");
+        };
+        let book = Book::open(&file, rows, index);
+        self.try_book(&book, &plan, seed, &mut dice)
     }
-    Ok(())
 }
 
 fn show_shapes(rt: &HostRuntime, shapes: &Shapes) -> io::Result<()> {
@@ -167,30 +185,38 @@ fn show_calls(rt: &HostRuntime, tally: &Tally) -> io::Result<()> {
 }
 
 /// The trials of each store, and the differences.
-fn show_trials(rt: &HostRuntime, tally: &Tally) -> io::Result<()> {
-    let [blank, ring, few, many, forgetful] = tally.trials;
+fn show_trials(rt: &HostRuntime, trials: &Trials, differences: usize) -> io::Result<()> {
+    let Trials {
+        blank,
+        ring,
+        few,
+        many,
+        forgetful,
+    } = trials;
     println!(rt;
         "trials: blank {blank}, ring {ring}, 3 slots {few}, 512 slots {many}, forgetful {forgetful}"
     )?;
-    let differences = tally.differences;
     println!(rt; "{differences} differences")
 }
 
 fn main(rt: HostRuntime) -> io::Result<()> {
     let mut rows = vec![in rt.alloc(); [0u8; 4]; 8192]?;
-    let mut stores = Stores {
-        ring: RingStore::new(),
-        few: [None; 3],
-        many: [None; 512],
-        forgetful: ForgetfulStore::new(),
+    let mut cases = Cases {
+        rt: &rt,
+        stores: Stores {
+            ring: RingStore::new(),
+            few: [None; 3],
+            many: [None; 512],
+            forgetful: ForgetfulStore::new(),
+        },
+        shapes: Shapes::default(),
+        tally: Tally::default(),
+        trials: Trials::default(),
     };
-    let mut shapes = Shapes {
-        barren: 0,
-        unmentioned: 0,
-    };
-    let mut tally = Tally::new();
-    try_books(&rt, &mut rows, &mut stores, &mut shapes, &mut tally)?;
-    show_shapes(&rt, &shapes)?;
-    show_calls(&rt, &tally)?;
-    show_trials(&rt, &tally)
+    for seed in 0..BOOKS {
+        cases.try_seed(&mut rows, seed)?;
+    }
+    show_shapes(&rt, &cases.shapes)?;
+    show_calls(&rt, &cases.tally)?;
+    show_trials(&rt, &cases.trials, cases.tally.differences)
 }

@@ -1,19 +1,17 @@
 // The calls of the library.
-use crate::calls::{Call, Decision, FIT, Offer, Request, WORK};
-use ask::Asked;
+use crate::calls::{Act, Call, Decision, FIT, Offer, Request, WORK};
+use ask::{Asked, Work};
 use book::Book;
+use made_books::WorkPlaces;
 use order::{issuable, issue};
 use questions::Question;
 use shared::ask_on;
 use sheet::{Kind, Sheet};
 use store::Store;
-use trail::{Branch, Saved, Side};
 
-/// What a call answers.
+/// What a call that is not refused answers.
 #[derive(Clone, Copy)]
 pub enum Reply {
-    /// The number of the question that refused it.
-    Refused(u8),
     /// A decision was made or withdrawn.
     Done,
     Answered(Asked),
@@ -21,44 +19,32 @@ pub enum Reply {
     Granted,
 }
 
-/// What came of a call: its answer, and the places for a fit, 255 where nothing was written.
+/// What came of a call: its answer or the question that refused it, and the places for a fit, 255 where nothing was written.
 #[derive(Clone, Copy)]
 pub struct Came {
-    pub reply: Reply,
+    pub reply: Result<Reply, Question>,
     pub fit: [u8; FIT],
 }
 
-fn make(decision: &Decision, book: &Book, sheet: &mut Sheet) -> Result<(), Question> {
+fn decide(
+    act: Act,
+    decision: &Decision,
+    book: &Book,
+    sheet: &mut Sheet,
+) -> Result<Reply, Question> {
     let Decision {
         person,
         kind,
         option,
         value,
     } = *decision;
-    match kind {
-        Kind::Fix => sheet.fix(book, person, option, value),
-        Kind::Bar => sheet.bar(book, person, option, value),
+    match (act, kind) {
+        (Act::Make, Kind::Fix) => sheet.fix(book, person, option, value)?,
+        (Act::Make, Kind::Bar) => sheet.bar(book, person, option, value)?,
+        (Act::Withdraw, Kind::Fix) => sheet.withdraw_fix(book, person, option, value)?,
+        (Act::Withdraw, Kind::Bar) => sheet.withdraw_bar(book, person, option, value)?,
     }
-}
-
-fn withdraw(decision: &Decision, book: &Book, sheet: &mut Sheet) -> Result<(), Question> {
-    let Decision {
-        person,
-        kind,
-        option,
-        value,
-    } = *decision;
-    match kind {
-        Kind::Fix => sheet.withdraw_fix(book, person, option, value),
-        Kind::Bar => sheet.withdraw_bar(book, person, option, value),
-    }
-}
-
-fn decided(res: Result<(), Question>) -> Reply {
-    match res {
-        Ok(()) => Reply::Done,
-        Err(question) => Reply::Refused(question.number()),
-    }
+    Ok(Reply::Done)
 }
 
 /// An ask with work slices of the lengths that it says.
@@ -68,41 +54,31 @@ fn ask<S: Store>(
     sheet: &Sheet,
     store: &mut S,
     fit: &mut [u8; FIT],
-) -> Reply {
-    let branch = Branch {
-        option: 0,
-        value: 0,
-        side: Side::Left,
-        mark: 0,
-    };
-    let mut branches = [branch; WORK];
-    let mut trail = [Saved { option: 0, set: 0 }; WORK];
+) -> Result<Reply, Question> {
+    let mut places = WorkPlaces::<WORK>::new();
     let first = request.branches.min(WORK);
     let second = request.trail.min(WORK);
     let third = request.fit.min(FIT);
+    let mut work = Work {
+        branches: &mut places.branches[0..first],
+        trail: &mut places.trail[0..second],
+        fit: &mut fit[0..third],
+    };
     let asked = ask_on(
         sheet,
         book,
         store,
         request.person,
         request.budget,
-        &mut branches[0..first],
-        &mut trail[0..second],
-        &mut fit[0..third],
-    );
-    match asked {
-        Ok(asked) => Reply::Answered(asked),
-        Err(question) => Reply::Refused(question.number()),
-    }
+        &mut work,
+    )?;
+    Ok(Reply::Answered(asked))
 }
 
 /// Asks whether the sheet may be issued with what is offered.
-fn offer(offer: &Offer, book: &Book, sheet: &Sheet) -> Reply {
-    let places = offer.places.min(FIT);
-    match issuable(sheet, book, offer.person, &offer.values[0..places]) {
-        Ok(()) => Reply::Granted,
-        Err(question) => Reply::Refused(question.number()),
-    }
+fn offer(offer: &Offer, book: &Book, sheet: &Sheet) -> Result<Reply, Question> {
+    issuable(sheet, book, offer.person, &offer.values)?;
+    Ok(Reply::Granted)
 }
 
 /// Issues the sheet with the values in the first places: whether it may be, and the order then has just these.
@@ -121,8 +97,7 @@ pub fn issues(sheet: Sheet, book: &Book, values: &[u8; FIT]) -> bool {
 pub fn obey<S: Store>(call: &Call, book: &Book, sheet: &mut Sheet, store: &mut S) -> Came {
     let mut fit = [255; FIT];
     let reply = match call {
-        Call::Make(decision) => decided(make(decision, book, sheet)),
-        Call::Withdraw(decision) => decided(withdraw(decision, book, sheet)),
+        Call::Decide(act, decision) => decide(*act, decision, book, sheet),
         Call::Ask(request) => ask(request, book, sheet, store, &mut fit),
         Call::Issue(offered) => offer(offered, book, sheet),
     };

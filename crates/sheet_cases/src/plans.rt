@@ -3,44 +3,23 @@ use made_books::{Plan, Table};
 
 /// Whether the table allows no row.
 fn is_barren(plan: &Plan, table: &Table) -> bool {
-    let mut values = [0; 24];
-    for row in 0..table.rows(&plan.sizes) {
-        table.lay(&plan.sizes, row, &mut values);
-        if table.allows(&plan.sizes, &values) {
-            return false;
-        }
-    }
-    true
+    let sizes = plan.sizes.as_slice();
+    !(0..table.rows(sizes)).any(|number| table.lists(sizes, &table.row(sizes, number)))
 }
 
 /// Whether some table allows no row.
 pub fn has_barren(plan: &Plan) -> bool {
-    for table in &plan.tables {
-        if is_barren(plan, table) {
-            return true;
-        }
-    }
-    false
+    plan.tables.iter().any(|table| is_barren(plan, table))
 }
 
 /// Whether the option is in the scope of a table.
 fn is_mentioned(plan: &Plan, option: usize) -> bool {
-    for table in &plan.tables {
-        for x in table.scope.iter().take(table.arity) {
-            if *x == option {
-                return true;
-            }
-        }
-    }
-    false
+    plan.tables
+        .iter()
+        .any(|table| table.scope.contains(&option))
 }
 
 /// Whether some option is in no table.
 pub fn has_unmentioned(plan: &Plan) -> bool {
-    for option in 0..plan.options {
-        if !is_mentioned(plan, option) {
-            return true;
-        }
-    }
-    false
+    (0..plan.sizes.len()).any(|option| !is_mentioned(plan, option))
 }

@@ -1,13 +1,14 @@
 // A list of calls at random, and what is to come of each: found from the model and by brute force, with the plain ask beside it.
 use crate::calls::{
-    Call, DECISIONS, Decision, FIT, full_request, numbered, random_decision, random_offer,
-    random_request,
+    Act, Call, DECISIONS, Decision, FIT, full_request, numbered, random_decision, random_offer,
+    random_request, size_of,
 };
 use crate::obeying::{Came, Reply, obey};
 use crate::standing::Standing;
 use ask::{Answer, Asked};
 use book::Book;
-use made_books::{Dice, Plan, has_fit, is_fit};
+use made_books::{Dice, Plan, has_fit, is_fit, untouched};
+use questions::Question;
 use shared::open_on;
 use std::alloc::{AllocError, Global};
 use store::BlankStore;
@@ -19,10 +20,9 @@ pub struct Plain {
     pub fit: [u8; FIT],
 }
 
-/// What is to come of a call.
+/// What is to come of a call that is not refused.
 #[derive(Clone, Copy)]
 pub enum Expected {
-    Refused(u8),
     Done,
     Granted,
     /// The ask is to agree with this plain ask, which brute force found right.
@@ -31,31 +31,17 @@ pub enum Expected {
     Wrong,
 }
 
-/// A call, and what is to come of it.
-#[derive(Clone, Copy)]
+/// A call, and what is to come of it, or the question that is to refuse it.
+#[derive(Drop)]
 pub struct Line {
     pub call: Call,
-    pub expected: Expected,
-}
-
-/// Whether no place was written.
-pub fn untouched(places: &[u8]) -> bool {
-    for place in places {
-        if *place != 255 {
-            return false;
-        }
-    }
-    true
+    pub expected: Result<Expected, Question>,
 }
 
 /// Whether the first places are a fit of the plan that meets every standing decision, and the others untouched.
 fn is_told(plan: &Plan, standing: &Standing, fit: &[u8; FIT]) -> bool {
-    let options = plan.options.min(FIT);
-    let mut values = [0; 24];
-    for x in 0..options {
-        values[x] = fit[x] as usize;
-    }
-    is_fit(plan, standing, &values) && untouched(&fit[options..])
+    let options = plan.sizes.len().min(FIT);
+    is_fit(plan, standing, fit) && untouched(&fit[options..])
 }
 
 /// Whether an answer is what a look at every choice of values finds.
@@ -67,53 +53,12 @@ fn is_right(plan: &Plan, standing: &Standing, answer: Answer, fit: &[u8; FIT]) -
     }
 }
 
-/// The plain ask: on a new sheet with the same standing decisions, without memory, with the largest budget.
-fn ask_plainly(book: &Book, plan: &Plan, standing: &Standing) -> Option<Came> {
-    let mut store = BlankStore;
-    let mut sheet = open_on(book, &mut store);
-    for number in 0..DECISIONS {
-        let decision = numbered(number);
-        if standing.has(&decision) {
-            let came = obey(&Call::Make(decision), book, &mut sheet, &mut store);
-            if let Reply::Refused(_) = came.reply {
-                return None;
-            }
-        }
-    }
-    let request = full_request(plan);
-    Some(obey(&Call::Ask(request), book, &mut sheet, &mut store))
-}
-
-/// What is to come of an ask that is not refused.
-fn foresee_answer(book: &Book, plan: &Plan, standing: &Standing) -> Expected {
-    let Some(came) = ask_plainly(book, plan, standing) else {
-        return Expected::Wrong;
-    };
-    let fit = came.fit;
-    match came.reply {
-        Reply::Answered(asked) if is_right(plan, standing, asked.answer, &fit) => {
-            Expected::Plain(Plain { asked, fit })
-        }
-        _ => Expected::Wrong,
-    }
-}
-
-/// What is to come of a call.
-fn foresee(book: &Book, plan: &Plan, standing: &Standing, call: &Call) -> Expected {
-    match (standing.refusal(plan, call), call) {
-        (Some(number), _) => Expected::Refused(number),
-        (None, Call::Ask(_)) => foresee_answer(book, plan, standing),
-        (None, Call::Issue(_)) => Expected::Granted,
-        (None, _) => Expected::Done,
-    }
-}
-
 /// What an earlier call, taken at random, decided; else another decision.
 fn earlier_decision(dice: &mut Dice, earlier: &[Line], other: Decision) -> Decision {
     match earlier.get(dice.below(earlier.len())) {
         Some(
             Line {
-                call: Call::Make(made),
+                call: Call::Decide(Act::Make, made),
                 ..
             },
         ) => *made,
@@ -125,7 +70,7 @@ fn earlier_decision(dice: &mut Dice, earlier: &[Line], other: Decision) -> Decis
 fn last_fit(earlier: &[Line]) -> Option<[u8; FIT]> {
     let mut last = None;
     for line in earlier {
-        if let Expected::Plain(plain) = line.expected {
+        if let Ok(Expected::Plain(plain)) = line.expected {
             if let Answer::Fit = plain.asked.answer {
                 last = Some(plain.fit);
             }
@@ -134,65 +79,116 @@ fn last_fit(earlier: &[Line]) -> Option<[u8; FIT]> {
     last
 }
 
-/// A call at random.
-fn random_call(dice: &mut Dice, plan: &Plan, earlier: &[Line]) -> Call {
-    let decision = random_decision(dice, plan);
-    match dice.below(9) {
-        0 | 1 | 2 => Call::Make(decision),
-        3 | 4 => Call::Withdraw(earlier_decision(dice, earlier, decision)),
-        5 => Call::Issue(random_offer(dice, plan, last_fit(earlier))),
-        _ => Call::Ask(random_request(dice, plan)),
-    }
+/// The lines so far on a sheet of a book, and what stands on it.
+#[derive(Drop)]
+struct Script<'a> {
+    book: &'a Book<'a>,
+    plan: &'a Plan,
+    standing: Standing,
+    lines: Vec<Line>,
 }
 
-/// One call more.
-fn add(
-    lines: &mut Vec<Line>,
-    book: &Book,
-    plan: &Plan,
-    standing: &mut Standing,
-    call: Call,
-) -> Result<(), AllocError> {
-    let expected = foresee(book, plan, standing, &call);
-    if let Expected::Done = expected {
-        standing.follow(&call);
+impl Script<'_> {
+    /// The plain ask: on a new sheet with the same standing decisions, without memory, with the largest budget.
+    fn ask_plainly(&self) -> Result<Came, Question> {
+        let mut store = BlankStore;
+        let mut sheet = open_on(self.book, &mut store);
+        for number in 0..DECISIONS {
+            let decision = numbered(number);
+            if self.standing.has(&decision) {
+                let call = Call::Decide(Act::Make, decision);
+                obey(&call, self.book, &mut sheet, &mut store).reply?;
+            }
+        }
+        let request = Call::Ask(full_request(self.plan));
+        Ok(obey(&request, self.book, &mut sheet, &mut store))
     }
-    lines.push(Line { call, expected })?;
-    Ok(())
-}
 
-/// Every decision that there can be is withdrawn, which shows what stood.
-fn add_withdrawals(
-    lines: &mut Vec<Line>,
-    book: &Book,
-    plan: &Plan,
-    standing: &mut Standing,
-) -> Result<(), AllocError> {
-    for number in 0..DECISIONS {
-        let decision = numbered(number);
-        if decision.option < plan.options && decision.value < plan.sizes[decision.option % 24] {
-            add(lines, book, plan, standing, Call::Withdraw(decision))?;
+    /// What is to come of an ask that is not refused.
+    fn foresee_answer(&self) -> Expected {
+        let Ok(came) = self.ask_plainly() else {
+            return Expected::Wrong;
+        };
+        let fit = came.fit;
+        match came.reply {
+            Ok(Reply::Answered(asked)) if is_right(self.plan, &self.standing, asked.answer, &fit) =>
+                { Expected::Plain(Plain { asked, fit }) }
+            _ => Expected::Wrong,
         }
     }
-    Ok(())
+
+    /// What is to come of a call.
+    fn foresee(&self, call: &Call) -> Result<Expected, Question> {
+        self.standing.ask(self.plan, call)?;
+        Ok(match call {
+            Call::Decide(_, _) => Expected::Done,
+            Call::Ask(_) => self.foresee_answer(),
+            Call::Issue(_) => Expected::Granted,
+        })
+    }
+
+    /// A call at random.
+    fn random_call(&self, dice: &mut Dice) -> Call {
+        let plan = self.plan;
+        let decision = random_decision(dice, plan);
+        match dice.below(9) {
+            0 | 1 | 2 => Call::Decide(Act::Make, decision),
+            3 | 4 => {
+                let earlier = earlier_decision(dice, &self.lines, decision);
+                Call::Decide(Act::Withdraw, earlier)
+            }
+            5 => Call::Issue(random_offer(dice, plan, last_fit(&self.lines))),
+            _ => Call::Ask(random_request(dice, plan)),
+        }
+    }
+
+    /// One call more.
+    fn add(&mut self, call: Call) -> Result<(), AllocError> {
+        let expected = self.foresee(&call);
+        if let Ok(Expected::Done) = expected {
+            self.standing.follow(&call);
+        }
+        self.lines.push(Line { call, expected })?;
+        Ok(())
+    }
+
+    /// Every decision that there can be is withdrawn, which shows what stood.
+    fn add_withdrawals(&mut self) -> Result<(), AllocError> {
+        for number in 0..DECISIONS {
+            let decision = numbered(number);
+            if decision.value < size_of(self.plan, decision.option) {
+                self.add(Call::Decide(Act::Withdraw, decision))?;
+            }
+        }
+        Ok(())
+    }
 }
 
 /// So many calls at random; then every decision that there can be is withdrawn, and an ask follows.
-pub fn script(
+pub fn make_script(
     heap: Global,
     book: &Book,
     plan: &Plan,
     dice: &mut Dice,
     calls: usize,
 ) -> Result<Vec<Line>, AllocError> {
-    let mut lines = Vec::new(heap);
-    let mut standing = Standing::new();
+    let mut script = Script {
+        book,
+        plan,
+        standing: Standing::new(),
+        lines: Vec::new(heap),
+    };
     for _ in 0..calls {
-        let call = random_call(dice, plan, &lines);
-        add(&mut lines, book, plan, &mut standing, call)?;
+        let call = script.random_call(dice);
+        script.add(call)?;
     }
-    add_withdrawals(&mut lines, book, plan, &mut standing)?;
-    let last = Call::Ask(full_request(plan));
-    add(&mut lines, book, plan, &mut standing, last)?;
+    script.add_withdrawals()?;
+    script.add(Call::Ask(full_request(plan)))?;
+    let Script {
+        book: _,
+        plan: _,
+        standing: _,
+        lines,
+    } = script;
     Ok(lines)
 }

@@ -1,8 +1,9 @@
 // A model of a sheet, written apart from the library: what stands as a plain table, and the first question that a call answers no.
 ghost use Rattle.std.specs.Prelude.{◌<◌};
 
-use crate::calls::{Call, DECISIONS, Decision, FIT, Offer, Request, all_sizes};
+use crate::calls::{Act, Call, DECISIONS, Decision, Offer, Request, all_sizes, size_of};
 use made_books::{Limits, Plan, is_fit};
+use questions::Question;
 use sheet::Kind;
 
 /// Of each numbered decision, whether it stands.
@@ -23,36 +24,40 @@ fn place(decision: &Decision) -> usize
     person * 64 + kind * 32 + decision.option % 8 * 4 + decision.value % 4
 }
 
-/// The number of the question that a decision answers no to, if its person, option and value are not known.
-fn unknown(plan: &Plan, decision: &Decision) -> Option<u8> {
-    if decision.person == 0 || decision.person > 2 {
-        return Some(12);
+/// Asks whether the person is one of the two.
+fn ask_person(person: usize) -> Result<(), Question> {
+    match person {
+        1 | 2 => Ok(()),
+        _ => Err(Question::Person),
     }
-    if decision.option >= plan.options {
-        return Some(13);
-    }
-    if decision.value >= plan.sizes[decision.option % 24] {
-        return Some(14);
-    }
-    None
 }
 
-/// The number of the question that an ask answers no to.
-fn unasked(plan: &Plan, request: &Request) -> Option<u8> {
-    let places = all_sizes(plan);
-    if request.person == 0 || request.person > 2 {
-        return Some(12);
+/// Asks whether the person, the option and the value of a decision are known.
+fn ask_known(plan: &Plan, decision: &Decision) -> Result<(), Question> {
+    ask_person(decision.person)?;
+    if decision.option >= plan.sizes.len() {
+        return Err(Question::OptionKnown);
     }
+    if decision.value >= size_of(plan, decision.option) {
+        return Err(Question::ValueKnown);
+    }
+    Ok(())
+}
+
+/// Asks the questions of an ask.
+fn ask_request(plan: &Plan, request: &Request) -> Result<(), Question> {
+    let places = all_sizes(plan);
+    ask_person(request.person)?;
     if request.budget == 0 || request.budget > 1000000 {
-        return Some(18);
+        return Err(Question::Budget);
     }
     if request.branches < places || request.trail < places {
-        return Some(19);
+        return Err(Question::WorkRoom);
     }
-    if request.fit < plan.options {
-        return Some(20);
+    if request.fit < plan.sizes.len() {
+        return Err(Question::FitRoom);
     }
-    None
+    Ok(())
 }
 
 impl Standing {
@@ -67,74 +72,63 @@ impl Standing {
         self.stands[place(decision)]
     }
 
-    /// The number of the question that issuing answers no to.
-    fn unissued(&self, plan: &Plan, offer: &Offer) -> Option<u8> {
-        if offer.person == 0 || offer.person > 2 {
-            return Some(12);
-        }
-        if offer.places < plan.options {
-            return Some(20);
-        }
-        let mut values = [0; 24];
-        for x in 0..FIT {
-            values[x] = offer.values[x] as usize;
-        }
-        if is_fit(plan, self, &values) {
-            None
-        } else {
-            Some(21)
+    /// Asks the questions of a decision.
+    fn ask_act(&self, plan: &Plan, act: Act, decision: &Decision) -> Result<(), Question> {
+        ask_known(plan, decision)?;
+        match act {
+            Act::Make if self.has(decision) => Err(Question::NotStanding),
+            Act::Withdraw if !self.has(decision) => Err(Question::Standing),
+            _ => Ok(()),
         }
     }
 
-    /// The number of the first question that the call answers no to.
-    pub fn refusal(&self, plan: &Plan, call: &Call) -> Option<u8> {
+    /// Asks the questions of issuing.
+    fn ask_offer(&self, plan: &Plan, offer: &Offer) -> Result<(), Question> {
+        ask_person(offer.person)?;
+        if offer.values.len() < plan.sizes.len() {
+            return Err(Question::FitRoom);
+        }
+        if !is_fit(plan, self, &offer.values) {
+            return Err(Question::Fit);
+        }
+        Ok(())
+    }
+
+    /// Asks the questions of a call: the first that it answers no to.
+    pub fn ask(&self, plan: &Plan, call: &Call) -> Result<(), Question> {
         match call {
-            Call::Make(decision) => match unknown(plan, decision) {
-                None if self.has(decision) => Some(15),
-                number => number,
-            },
-            Call::Withdraw(decision) => match unknown(plan, decision) {
-                None if !self.has(decision) => Some(16),
-                number => number,
-            },
-            Call::Ask(request) => unasked(plan, request),
-            Call::Issue(offer) => self.unissued(plan, offer),
+            Call::Decide(act, decision) => self.ask_act(plan, *act, decision),
+            Call::Ask(request) => ask_request(plan, request),
+            Call::Issue(offer) => self.ask_offer(plan, offer),
         }
     }
 
     /// What stands after a call that is not refused.
     pub fn follow(&mut self, call: &Call) {
         match call {
-            Call::Make(decision) => self.stands[place(decision)] = true,
-            Call::Withdraw(decision) => self.stands[place(decision)] = false,
+            Call::Decide(Act::Make, decision) => self.stands[place(decision)] = true,
+            Call::Decide(Act::Withdraw, decision) => self.stands[place(decision)] = false,
             Call::Ask(_) | Call::Issue(_) => {}
         }
     }
 
     /// Whether a decision of this kind stands, of either person.
     fn by_any(&self, kind: Kind, option: usize, value: usize) -> bool {
-        for person in 1..3usize {
-            let decision = Decision {
+        (1..3usize).any(|person| {
+            self.has(&Decision {
                 person,
                 kind,
                 option,
                 value,
-            };
-            if self.has(&decision) {
-                return true;
-            }
-        }
-        false
+            })
+        })
     }
 }
 
 impl Limits for Standing {
     fn leaves(&self, option: usize, value: usize) -> bool {
-        for other in 0..4usize {
-            if other != value && self.by_any(Kind::Fix, option, other) {
-                return false;
-            }
-        }
-        !self.by_any(Kind::Bar, option, value)
+        let elsewhere = (0..4usize).any(|other| other != value
+            && self.by_any(Kind::Fix, option, other));
+        !elsewhere && !self.by_any(Kind::Bar, option, value)
     }
 }

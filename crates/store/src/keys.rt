@@ -1,6 +1,6 @@
 // The key by which a box finds its slot.
 ghost use Rattle.std.specs.Prelude.{◌≡◌};
-ghost use Rattle.store.specs.Key.{combined, key_from, key};
+ghost use Rattle.store.specs.Key.{combined, key};
 
 use boxes::ValueBox;
 
@@ -11,20 +11,10 @@ fn combine(key: u32, set: u32) -> u32
     key.rotate_left(5) ^ set
 }
 
-// The key so far, with some more options' sets.
-fn combine_all(mut key: u32, sets: &[u32]) -> u32
-    ensures { result ≡ key_from key sets.now }
-{
-    for set in sets {
-        key = combine(key, *set);
-    }
-    key
-}
-
 /// The key of a box. It is 0 at first; then, for each of the 24 options in turn, it is rotated left by 5 and combined by
 /// exclusive or with the option's set.
 pub fn key_of(found: &ValueBox) -> u32
     ensures { result ≡ key found.now.sets }
 {
-    combine_all(0, &found.sets)
+    found.sets.iter().fold(0, |key, set| combine(key, *set))
 }

@@ -7,8 +7,9 @@ mod samples;
 mod slices;
 
 use forgetful::ForgetfulStore;
+use questions::Question;
 use samples::{count_seen, tell_numbered};
-use std::io;
+use std::{fmt, io};
 use store::BlankStore;
 
 // A store that never holds anything.
@@ -28,7 +29,15 @@ fn forgets() -> [u32; 3] {
     [all, again, count_seen(&mut store, 2, 3)]
 }
 
-fn show(rt: HostRuntime, example: &str, found: &[u32]) -> io::Result<()> {
+// The number by which a refusal is told, 0 where nothing is refused.
+fn number(asked: Result<(), Question>) -> u8 {
+    match asked {
+        Ok(()) => 0,
+        Err(question) => question.number(),
+    }
+}
+
+fn show<N: fmt::Display>(rt: HostRuntime, example: &str, found: &[N]) -> io::Result<()> {
     print!(rt; "{example}:")?;
     for number in found {
         print!(rt; " {number}")?;
@@ -49,7 +58,11 @@ fn main(rt: HostRuntime) -> io::Result<()> {
         "ring, emptied, the empty box before and after its tell",
         &rings::empties(),
     )?;
-    show(rt, "0, 1, 512 and 513 slots", &slices::lengths())?;
+    show(
+        rt,
+        "0, 1, 512 and 513 slots",
+        &slices::lengths().map(number),
+    )?;
     show(
         rt,
         "1 slot, the empty box before and after its tell, then told 3 more, the empty box",
@@ -64,7 +77,7 @@ fn main(rt: HostRuntime) -> io::Result<()> {
     show(
         rt,
         "a box in its slot and one in another, then told",
-        &slices::finds_boxes(),
+        &slices::finds_boxes().map(u32::from),
     )?;
     show(
         rt,

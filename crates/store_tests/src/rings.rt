@@ -2,7 +2,7 @@
 ghost use Rattle.std.specs.Prelude.{◌≡◌, reverse, take};
 ghost use Rattle.store.specs.Ring.{recent};
 
-use crate::samples::{count_seen, nothing, seen, single, tell_numbered};
+use crate::samples::{count_seen, nothing, single, tell_numbered};
 use boxes::ValueBox;
 use store::{RingStore, Store};
 
@@ -27,8 +27,8 @@ pub fn one_more() -> [u32; 4] {
     [
         full,
         turned,
-        seen(&mut ring, &single(0, 1)),
-        seen(&mut ring, &single(0, 2)),
+        u32::from(ring.seen(&single(0, 1))),
+        u32::from(ring.seen(&single(0, 2))),
     ]
 }
 
@@ -47,12 +47,12 @@ pub fn empties() -> [u32; 4] {
     let mut ring = told(&[single(0, 1), single(0, 2), single(0, 1)]);
     ring.empty();
     let emptied = count_seen(&mut ring, 1, 100);
-    let before = seen(&mut ring, &nothing());
+    let before = u32::from(ring.seen(&nothing()));
     ring.tell(&nothing());
     [
         emptied,
         before,
-        seen(&mut ring, &nothing()),
+        u32::from(ring.seen(&nothing())),
         count_seen(&mut ring, 1, 100),
     ]
 }

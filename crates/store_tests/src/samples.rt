@@ -8,8 +8,8 @@ use store::Store;
 // A box of one recorded option.
 pub fn single(option: usize, set: u32) -> ValueBox {
     let mut sets = [0; 24];
-    if option < 24 {
-        sets[option] = set;
+    if let Some(recorded) = sets.get_mut(option) {
+        *recorded = set;
     }
     ValueBox { sets }
 }
@@ -40,12 +40,7 @@ pub fn tell_numbered<S: Store>(store: &mut S, first: u32, last: u32) {
 pub fn count_seen<S: Store>(store: &mut S, first: u32, last: u32) -> u32 {
     let mut count = 0u32;
     for n in first..last {
-        count = count.saturating_add(seen(store, &single(0, n)));
+        count = count.saturating_add(u32::from(store.seen(&single(0, n))));
     }
     count
-}
-
-// 1 where the store holds the box, else 0.
-pub fn seen<S: Store>(store: &mut S, sought: &ValueBox) -> u32 {
-    if store.seen(sought) { 1 } else { 0 }
 }

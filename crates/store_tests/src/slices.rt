@@ -5,28 +5,14 @@ ghost use Rattle.store.specs.Making.{Sized};
 ghost use Rattle.store.specs.Slots.{slot_of};
 ghost use Rattle.store_tests.specs.Samples.{worked};
 
-use crate::samples::{count_seen, note, nothing, seen, single, tell_numbered};
+use crate::samples::{count_seen, note, nothing, single, tell_numbered};
 use boxes::ValueBox;
 use questions::Question;
 use store::{Slot, SlotStore, Store, key_of};
 
-// The number by which a refusal is told, 0 for none.
-fn refusal(asked: Result<(), Question>) -> u32 {
-    match asked {
-        Ok(()) => 0,
-        Err(question) => u32::from(question.number()),
-    }
-}
-
 // How many slots are taken.
-fn taken(slots: &[Slot]) -> u32 {
-    let mut count = 0u32;
-    for slot in slots {
-        if slot.is_some() {
-            count = count.saturating_add(1);
-        }
-    }
-    count
+fn taken(slots: &[Slot]) -> usize {
+    slots.iter().filter(|slot| slot.is_some()).count()
 }
 
 // The key of a box that records values 30, then 0 and 2, then 1 and 2 of its last three options.
@@ -51,27 +37,29 @@ pub fn note_in(slots: &mut [Slot], refuted: &ValueBox) -> bool
 }
 
 // 1 to 512 slots, and not 0 or 513.
-pub fn lengths() -> [u32; 4] {
+pub fn lengths() -> [Result<(), Question>; 4] {
     let slots: [Slot; 513] = [None; 513];
-    let none = refusal(SlotStore::check(&slots[0..0]));
-    let one = refusal(SlotStore::check(&slots[0..1]));
-    let most = refusal(SlotStore::check(&slots[0..512]));
-    [none, one, most, refusal(SlotStore::check(&slots))]
+    [
+        SlotStore::check(&slots[..0]),
+        SlotStore::check(&slots[..1]),
+        SlotStore::check(&slots[..512]),
+        SlotStore::check(&slots),
+    ]
 }
 
 // In one slot a told box takes the place of the one before; the box that records nothing is not a vacant slot.
 pub fn overwrites() -> [u32; 4] {
     let mut slots: [Slot; 1] = [None; 1];
     let mut store = SlotStore::over(&mut slots);
-    let vacant = seen(&mut store, &nothing());
+    let vacant = u32::from(store.seen(&nothing()));
     store.tell(&nothing());
-    let empty = seen(&mut store, &nothing());
+    let empty = u32::from(store.seen(&nothing()));
     tell_numbered(&mut store, 1, 4);
     [
         vacant,
         empty,
         count_seen(&mut store, 1, 4),
-        seen(&mut store, &nothing()),
+        u32::from(store.seen(&nothing())),
     ]
 }
 
@@ -82,38 +70,39 @@ pub fn shares_a_key() -> [u32; 6] {
     let mut slots: [Slot; 512] = [None; 512];
     let mut store = SlotStore::over(&mut slots);
     store.tell(&early);
-    let first = [seen(&mut store, &early), seen(&mut store, &late)];
+    let first = [store.seen(&early), store.seen(&late)];
     store.tell(&late);
+    let then = [store.seen(&early), store.seen(&late)];
     [
         key_of(&early),
         key_of(&late),
-        first[0],
-        first[1],
-        seen(&mut store, &early),
-        seen(&mut store, &late),
+        u32::from(first[0]),
+        u32::from(first[1]),
+        u32::from(then[0]),
+        u32::from(then[1]),
     ]
 }
 
 // A slice that has boxes already: one that lies where its key says is held, and one that lies elsewhere is not.
-pub fn finds_boxes() -> [u32; 4] {
+pub fn finds_boxes() -> [bool; 4] {
     let placed = single(23, 5);
     let misplaced = single(23, 6);
     let mut slots: [Slot; 8] = [None; 8];
     slots[5] = Some(placed);
     slots[7] = Some(misplaced);
     let mut store = SlotStore::over(&mut slots);
-    let before = [seen(&mut store, &placed), seen(&mut store, &misplaced)];
+    let before = [store.seen(&placed), store.seen(&misplaced)];
     store.tell(&misplaced);
     [
         before[0],
         before[1],
-        seen(&mut store, &placed),
-        seen(&mut store, &misplaced),
+        store.seen(&placed),
+        store.seen(&misplaced),
     ]
 }
 
 // Emptying makes every slot vacant.
-pub fn empties() -> [u32; 2] {
+pub fn empties() -> [usize; 2] {
     let mut slots: [Slot; 8] = [None; 8];
     let _ = note_in(&mut slots, &single(23, 5));
     let _ = note_in(&mut slots, &single(23, 6));

@@ -4,7 +4,7 @@
 
 use book::Row;
 use made_files::with_counts;
-use readings::{Finding, first, second};
+use readings::{Refusal, first, second};
 use std::io;
 
 /// The sample book: gate, divider and stand, of 3, 2 and 2 values, with tables of 4 and 3 rows.
@@ -19,17 +19,18 @@ fn compare(rt: &HostRuntime, what: &str, file: &[u8], rows: &mut [Row]) -> io::R
     let ours = first(file, rows);
     let alike = if ours == theirs { "alike" } else { "DIFFERENT" };
     match ours {
-        Finding::Refused(number, bit) => println!(rt;
-            "{what}: refused with {number} at {bit}, {alike}"
-        ),
-        Finding::Book(_) => println!(rt; "{what}: read, {alike}"),
+        Err(Refusal { question, bit }) => {
+            let number = question.number();
+            println!(rt; "{what}: refused with {number} at {bit}, {alike}")
+        }
+        Ok(_) => println!(rt; "{what}: read, {alike}"),
     }
 }
 
 fn torn(rt: &HostRuntime, rows: &mut [Row]) -> io::Result<()> {
-    for n in 0..37 {
+    for n in 0..SAMPLE.len() {
         print!(rt; "{n} bytes, ")?;
-        compare(rt, "torn", &SAMPLE[0..n], rows)?;
+        compare(rt, "torn", &SAMPLE[..n], rows)?;
     }
     Ok(())
 }
@@ -44,8 +45,8 @@ fn turned(rt: &HostRuntime, rows: &mut [Row]) -> io::Result<()> {
         let theirs = second(&file, rows.len());
         let ours = first(&file, rows);
         match ours {
-            Finding::Refused(_, _) => refused = refused.wrapping_add(1),
-            Finding::Book(_) => read = read.wrapping_add(1),
+            Err(_) => refused = refused.wrapping_add(1),
+            Ok(_) => read = read.wrapping_add(1),
         }
         if ours == theirs {
             alike = alike.wrapping_add(1);
@@ -54,48 +55,33 @@ fn turned(rt: &HostRuntime, rows: &mut [Row]) -> io::Result<()> {
     println!(rt; "each of 296 bits turned: {read} read, {refused} refused, {alike} alike")
 }
 
-fn bounds(rt: &HostRuntime, rows: &mut [Row]) -> io::Result<()> {
-    let heap = rt.alloc();
-    compare(
-        rt,
-        "a table of 1024 rows",
-        &with_counts(heap, 3, &[1024])?,
-        rows,
-    )?;
-    compare(
-        rt,
-        "a table of 1025 rows",
-        &with_counts(heap, 3, &[1025])?,
-        rows,
-    )?;
-    compare(
-        rt,
-        "8192 rows together",
-        &with_counts(heap, 3, &[1024; 8])?,
-        rows,
-    )?;
-    compare(
-        rt,
+/// Of each file at a bound: what it is, how many options it has, and how many rows each of its tables.
+const BOUNDS: [(&str, usize, &[usize]); 9] = [
+    ("a table of 1024 rows", 3, &[1024]),
+    ("a table of 1025 rows", 3, &[1025]),
+    ("8192 rows together", 3, &[1024; 8]),
+    (
         "8193 rows together",
-        &with_counts(
-            heap,
-            3,
-            &[1024, 1024, 1024, 1024, 1024, 1024, 1024, 1024, 1],
-        )?,
-        rows,
-    )?;
-    compare(rt, "24 options", &with_counts(heap, 24, &[])?, rows)?;
-    compare(rt, "25 options", &with_counts(heap, 25, &[])?, rows)?;
-    compare(rt, "no option", &with_counts(heap, 0, &[])?, rows)?;
-    compare(rt, "48 tables", &with_counts(heap, 3, &[2; 48])?, rows)?;
-    compare(rt, "49 tables", &with_counts(heap, 3, &[2; 49])?, rows)
+        3,
+        &[1024, 1024, 1024, 1024, 1024, 1024, 1024, 1024, 1],
+    ),
+    ("24 options", 24, &[]),
+    ("25 options", 25, &[]),
+    ("no option", 0, &[]),
+    ("48 tables", 3, &[2; 48]),
+    ("49 tables", 3, &[2; 49]),
+];
+
+fn bounds(rt: &HostRuntime, rows: &mut [Row]) -> io::Result<()> {
+    for (what, options, counts) in BOUNDS {
+        compare(rt, what, &with_counts(rt.alloc(), options, counts)?, rows)?;
+    }
+    Ok(())
 }
 
 fn lengths(rt: &HostRuntime, rows: &mut [Row]) -> io::Result<()> {
     let mut file = SAMPLE.to_vec(rt.alloc())?;
-    for _ in 37..32768 {
-        file.push(0)?;
-    }
+    file.resize(32768, 0)?;
     compare(rt, "a file of 32768 bytes", &file, rows)?;
     file.push(0)?;
     compare(rt, "a file of 32769 bytes", &file, rows)?;

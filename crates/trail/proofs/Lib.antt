@@ -1,3 +1,4 @@
 pub mod Undone
 pub mod Fewer
 pub mod Adopting
+pub mod Kept

@@ -1,1 +1,2 @@
 pub mod Trails
+pub mod Rooms

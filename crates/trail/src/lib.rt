@@ -1,8 +1,8 @@
-// Open branches, and the trail by which sets are put back as they were.
+// A search's sets and open branches, and the trail by which sets are put back as they were.
 #![tactic(auto)]
 
 mod kinds;
-mod steps;
+mod search;
 
 pub use kinds::{Branch, Saved, Side};
-pub use steps::{adopt, close, open};
+pub use search::Search;

@@ -8,7 +8,7 @@ use Rattle.boxes.specs.declared.ValueBox.{ValueBox}
 use Rattle.values.specs.Members.{In}
 use Rattle.propagate.specs.Sets.{sets_of}
 use Rattle.propagate.specs.Support.{Mentions, is_live}
-use Rattle.propagate.proofs.Books.{size_most}
+use Rattle.book.proofs.Sizes.{size_most}
 use Rattle.reduce.specs.Universal.{Universal, Free, ways}
 use Rattle.reduce.specs.Boxes.{LeftOut}
 use Rattle.reduce.proofs.Changes.{one_box}

@@ -1,4 +1,5 @@
 // What is asked of a set of values, and what is made of one.
+// A set stays a plain number: the project's rule keeps value sets as 32-bit numbers, so a value below 32 is asked for at each call.
 ghost use Rattle.std.specs.Prelude.{◌≡◌, ℕ, ◌-◌, ◌^◌, ◌<◌, ◌≤◌, Decides, count_ones};
 ghost use Rattle.values.specs.Members.{In, Lowest, Without};
 

@@ -2,37 +2,20 @@
 use crate::narrowing::show_narrowed;
 use ask::Asked;
 use book::Book;
-use made_books::{Told, show_ask};
+use made_books::{Told, WorkPlaces, show_ask};
 use questions::Question;
 use shared::{ask_on, open_on};
 use sheet::Sheet;
 use std::io;
 use store::{BlankStore, RingStore, Slot, SlotStore, Store};
-use trail::{Branch, Saved, Side};
 
 /// An ask of a sheet just opened, without memory, on a book of up to 16 values together.
 fn ask_sheet(book: &Book, budget: usize) -> Result<Told, Question> {
-    let branch = Branch {
-        option: 0,
-        value: 0,
-        side: Side::Left,
-        mark: 0,
-    };
-    let mut branches = [branch; 16];
-    let mut trail = [Saved { option: 0, set: 0 }; 16];
-    let mut fit = [255; 24];
+    let mut places = WorkPlaces::<16>::new();
     let mut store = BlankStore;
     let sheet = open_on(book, &mut store);
-    let Asked { answer, count } = ask_on(
-        &sheet,
-        book,
-        &mut store,
-        1,
-        budget,
-        &mut branches,
-        &mut trail,
-        &mut fit,
-    )?;
+    let Asked { answer, count } = ask_on(&sheet, book, &mut store, 1, budget, &mut places.lend())?;
+    let fit = places.fit;
     Ok(Told { answer, count, fit })
 }
 

@@ -1,16 +1,10 @@
 // The bounds of what a book may count, read from files made for it and written from drafts; and the bounds of a slot store.
 use crate::drafts::write_counts;
-use book::{Fault, Row};
+use book::Row;
+use made_drafts::Numbered;
 use made_files::with_counts;
 use std::io;
 use store::{Slot, SlotStore};
-
-/// Tells a refusal.
-fn show_fault(rt: &HostRuntime, fault: &Fault) -> io::Result<()> {
-    let number = fault.question.number();
-    let bit = fault.bit;
-    print!(rt; "refused by {number} at bit {bit}")
-}
 
 /// Reads a file with these counts, and writes a draft with the same.
 fn show_counts(
@@ -24,7 +18,10 @@ fn show_counts(
     print!(rt; "  {what}: ")?;
     match book::read(&file, room) {
         Ok(_) => print!(rt; "read")?,
-        Err(fault) => show_fault(rt, &fault)?,
+        Err(fault) => {
+            let place = Numbered(fault);
+            print!(rt; "refused by {place}")?;
+        }
     }
     let mut out = vec![in rt.alloc(); 0u8; 32768]?;
     print!(rt; "; a draft of it is ")?;
@@ -33,28 +30,37 @@ fn show_counts(
             let same = n == file.len() && out.starts_with(&file);
             print!(rt; "written in {n} bytes, those of the file: {same}")?;
         }
-        Err(fault) => show_fault(rt, &fault)?,
+        Err(fault) => {
+            let place = Numbered(fault);
+            print!(rt; "refused by {place}")?;
+        }
     }
     println!(rt; "")
 }
 
-/// Each count at its bound, and beyond it.
-pub fn counts(rt: &HostRuntime, room: &mut [Row]) -> io::Result<()> {
-    println!(rt; "counts at their bounds")?;
-    show_counts(rt, room, "a table of 1024 rows", 3, &[1024])?;
-    show_counts(rt, room, "a table of 1025 rows", 3, &[1025])?;
-    show_counts(rt, room, "8192 rows together", 3, &[1024; 8])?;
-    show_counts(
-        rt,
-        room,
+/// Of each count at its bound, and beyond it: what it is, how many options there are, and how many rows each table has.
+const COUNTS: [(&str, usize, &[usize]); 8] = [
+    ("a table of 1024 rows", 3, &[1024]),
+    ("a table of 1025 rows", 3, &[1025]),
+    ("8192 rows together", 3, &[1024; 8]),
+    (
         "8193 rows together",
         3,
         &[1024, 1024, 1024, 1024, 1024, 1024, 1024, 1024, 1],
-    )?;
-    show_counts(rt, room, "24 options", 24, &[])?;
-    show_counts(rt, room, "25 options", 25, &[])?;
-    show_counts(rt, room, "48 tables", 3, &[2; 48])?;
-    show_counts(rt, room, "49 tables", 3, &[2; 49])
+    ),
+    ("24 options", 24, &[]),
+    ("25 options", 25, &[]),
+    ("48 tables", 3, &[2; 48]),
+    ("49 tables", 3, &[2; 49]),
+];
+
+/// Each count at its bound, and beyond it.
+pub fn counts(rt: &HostRuntime, room: &mut [Row]) -> io::Result<()> {
+    println!(rt; "counts at their bounds")?;
+    for (what, options, rows) in COUNTS {
+        show_counts(rt, room, what, options, rows)?;
+    }
+    Ok(())
 }
 
 /// 0, 1, 512 and 513 slots.

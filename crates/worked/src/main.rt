@@ -7,105 +7,56 @@ mod conversation;
 mod drafts;
 mod narrowing;
 mod sample;
-mod showing;
 
 use book::{Book, Row};
-use made_books::{Plan, Rule, Table, build, pigeons, three};
+use made_books::{Plan, Rule, Table, build, pigeons, show_book};
 use std::{fs, io};
 
-/// What is shown of a book.
-#[derive(Clone, Copy)]
-enum Example {
-    Sample,
-    Triangle,
-    Crowd,
-    Live,
-    Barren,
-    Conversation,
-}
-
-/// Reads a file, and shows the example.
-fn show<'a>(
-    rt: &HostRuntime,
-    file: &'a [u8],
-    rows: &'a mut [Row],
-    example: Example,
-) -> io::Result<()> {
-    let Ok(index) = book::read(file, rows) else {
-        return println!(rt; "  REFUSED");
-    };
-    let book = Book::open(file, rows, index);
-    match example {
-        Example::Sample => sample::show(rt, &book, file),
-        Example::Triangle => asks::triangle(rt, &book),
-        Example::Crowd => narrowing::crowd(rt, &book),
-        Example::Live => narrowing::live(rt, &book),
-        Example::Barren => asks::barren(rt, &book),
-        Example::Conversation => conversation::converse(rt, &book),
-    }
-}
-
-fn show_plan(
+/// What is shown of the book of a plan.
+fn show_plan<F: FnOnce(&Book) -> io::Result<()>>(
     rt: &HostRuntime,
     rows: &mut [Row],
     what: &str,
     plan: &Plan,
-    example: Example,
-) -> io::Result<()> {
+    show: F,
+) -> io::Result<()>
+    requires { F.IsAlwaysCallable show }
+{
     println!(rt; "{what}")?;
     let file = build(rt.alloc(), plan)?;
-    show(rt, &file, rows, example)
+    show_book(rt, &file, rows, show)
 }
 
 /// Options that are all to differ by pairs, with a value too few.
 fn show_pigeons(rt: &HostRuntime, rows: &mut [Row]) -> io::Result<()> {
     let triangle = pigeons(rt.alloc(), 3, Rule::Different)?;
-    show_plan(
-        rt,
-        rows,
-        "three options of two values, all different by pairs",
-        &triangle,
-        Example::Triangle,
-    )?;
+    let what = "three options of two values, all different by pairs";
+    show_plan(rt, rows, what, &triangle, |book| asks::triangle(rt, book))?;
     let crowd = pigeons(rt.alloc(), 5, Rule::Different)?;
-    show_plan(
-        rt,
-        rows,
-        "five options of four values, all different by pairs",
-        &crowd,
-        Example::Crowd,
-    )
+    let what = "five options of four values, all different by pairs";
+    show_plan(rt, rows, what, &crowd, |book| narrowing::crowd(rt, book))
 }
 
 /// A table on three options of two values, with the rows whose bits are 1.
 fn show_cube(rt: &HostRuntime, rows: &mut [Row], what: &str, listed: u64) -> io::Result<()> {
     let mut cube = Plan::new(rt.alloc(), 3, 2);
-    cube.add(three(0, 1, 2, Rule::Rows(listed)))?;
-    show_plan(rt, rows, what, &cube, Example::Live)
+    cube.add(Table::on(&[0, 1, 2], Rule::Rows(listed)))?;
+    show_plan(rt, rows, what, &cube, |book| narrowing::live(rt, book))
 }
 
 /// A table that allows nothing.
 fn show_barren(rt: &HostRuntime, rows: &mut [Row]) -> io::Result<()> {
     let mut barren = Plan::new(rt.alloc(), 1, 2);
-    barren.add(Table {
-        scope: [0; 3],
-        arity: 1,
-        rule: Rule::Rows(0),
-    })?;
-    show_plan(
-        rt,
-        rows,
-        "one option, and a table without rows",
-        &barren,
-        Example::Barren,
-    )
+    barren.add(Table::on(&[0], Rule::Rows(0)))?;
+    let what = "one option, and a table without rows";
+    show_plan(rt, rows, what, &barren, |book| asks::barren(rt, book))
 }
 
 fn main(rt: HostRuntime) -> io::Result<()> {
     let mut rows = vec![in rt.alloc(); [0u8; 4]; 8192]?;
     let file = fs::read(&rt, "book.bin")?;
     println!(rt; "the sample book")?;
-    show(&rt, &file, &mut rows, Example::Sample)?;
+    show_book(&rt, &file, &mut rows, |book| sample::show(&rt, book, &file))?;
     show_pigeons(&rt, &mut rows)?;
     show_cube(
         &rt,
@@ -121,7 +72,12 @@ fn main(rt: HostRuntime) -> io::Result<()> {
     )?;
     show_barren(&rt, &mut rows)?;
     println!(rt; "a conversation over the sample book")?;
-    show(&rt, &file, &mut rows, Example::Conversation)?;
+    show_book(
+        &rt,
+        &file,
+        &mut rows,
+        |book| conversation::converse(&rt, book),
+    )?;
     bounds::counts(&rt, &mut rows)?;
     bounds::slots(&rt)
 }

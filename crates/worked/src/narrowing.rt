@@ -1,7 +1,7 @@
 // Propagation of what decisions leave, boxes, and universal tables.
-use crate::showing::show_sets;
 use book::{Book, Row};
 use boxes::ValueBox;
+use made_books::show_sets;
 use propagate::{Outcome, ValueSets, propagate};
 use reduce::{box_of, universal};
 use sheet::Sheet;
@@ -16,14 +16,14 @@ pub fn show_narrowed(
 ) -> io::Result<ValueBox> {
     let options = book.sizes().len();
     let mut sets = sheet.starting_sets(book);
-    show_sets(rt, what, &sets.sets, options)?;
+    show_sets(rt, what, &sets.sets[..options])?;
     let outcome = propagate(book, &mut sets);
     let made = box_of(book, &sets);
     match outcome {
         Outcome::Emptied => println!(rt; "    emptied")?,
         Outcome::Narrowed => {
-            show_sets(rt, "  narrowed", &sets.sets, options)?;
-            show_sets(rt, "  box", &made.sets, options)?;
+            show_sets(rt, "  narrowed", &sets.sets[..options])?;
+            show_sets(rt, "  box", &made.sets[..options])?;
         }
     }
     Ok(made)
@@ -54,21 +54,17 @@ pub fn crowd(rt: &HostRuntime, book: &Book) -> io::Result<()> {
 
 /// Whether each of the first three values of the row is in its option's set.
 fn is_live(row: &Row, sets: &ValueSets) -> bool {
-    for x in 0..3usize {
-        if (sets.sets[x] >> (row[x] % 32)) % 2 == 0 {
-            return false;
-        }
-    }
-    true
+    let values = row.iter().take(3);
+    values
+        .zip(&sets.sets)
+        .all(|(value, set)| (*set >> (*value % 32)) % 2 == 1)
 }
 
 /// A table in sets that have four combinations: those that it lists, and whether it is universal there.
 pub fn live(rt: &HostRuntime, book: &Book) -> io::Result<()> {
     let mut sets = ValueSets { sets: [0; 24] };
-    sets.sets[0] = 0b1;
-    sets.sets[1] = 0b11;
-    sets.sets[2] = 0b11;
-    show_sets(rt, "sets", &sets.sets, 3)?;
+    sets.sets[..3].copy_from_slice(&[0b1, 0b11, 0b11]);
+    show_sets(rt, "sets", &sets.sets[..3])?;
     print!(rt; "  live rows:")?;
     for row in book.rows().iter().take(8) {
         if is_live(row, &sets) {

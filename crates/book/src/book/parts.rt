@@ -1,5 +1,5 @@
 // What a read book is made of.
-ghost use Rattle.std.specs.Prelude.{◌≡◌, ◌+◌, ◌≤◌, length, take, drop, IfOk, Ok, slice_index};
+ghost use Rattle.std.specs.Prelude.{◌≡◌, ℕ, ◌+◌, ◌<◌, ◌≤◌, length, take, drop, IfOk, Ok, slice_index, sum};
 ghost use Rattle.std.specs.Result.{result_map_both};
 ghost use Rattle.book.specs.Books.{contents, letters, named, name_place, rows_at, tables_at};
 ghost use Rattle.book.specs.Parse.{Read, parse};
@@ -7,6 +7,14 @@ ghost use Rattle.book.specs.Parse.{Read, parse};
 use super::Book;
 use grammar::{Index, Row, TableIndex};
 use questions::Question;
+
+/// How many bytes names of these lengths have together.
+fn together(lengths: &[u8]) -> usize
+    requires { length lengths.now ≤ 24 }
+    ensures { result ≡ sum lengths.now }
+{
+    lengths.iter().map(|length| usize::from(*length)).sum()
+}
 
 impl<'a> Book<'a> {
     /// The book that a file and its rows are, after `read` has answered yes to them; it cannot refuse.
@@ -20,7 +28,9 @@ impl<'a> Book<'a> {
 
     /// The size of each option.
     pub fn sizes(&self) -> &[u8]
-        ensures { result.now ≡ (contents self.now).sizes }
+        ensures value { result.now ≡ (contents self.now).sizes }
+        ensures few { length result.now ≤ 24 }
+        ensures sized { (x : ℕ) → x < length result.now → (1 ≤ slice_index result.now x) × (slice_index result.now x ≤ 32) }
     {
         &self.index.sizes[0..self.index.options]
     }
@@ -66,11 +76,8 @@ impl<'a> Book<'a> {
         ensures place { result ≡ name_place self.now option }
         ensures inside { result ≤ length self.now.file.now }
     {
-        let mut start = self.file.len() - self.index.letters;
-        for i in 0..option {
-            start += self.index.lengths[i] as usize;
-        }
-        start
+        let first = self.file.len() - self.index.letters;
+        first + together(&self.index.lengths[..option])
     }
 
     /// The name of an option, as that part of the file's own bytes.

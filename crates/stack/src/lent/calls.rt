@@ -6,6 +6,7 @@ use crate::lent::Stack;
 
 impl<'a, T: Copy> Stack<'a, T> {
     /// A stack over the slice, with nothing on it.
+    #[tactic(auto, using(crate::proofs::Stacks::stacked_none))]
     pub fn new(items: &'a mut [T]) -> Stack<'a, T>
         ensures none { on result ≡ [] }
         ensures room { room result ≡ length items.old }
@@ -14,6 +15,7 @@ impl<'a, T: Copy> Stack<'a, T> {
     }
 
     /// How many elements it holds.
+    #[tactic(auto, using(crate::proofs::Stacks::length_stacked))]
     pub fn depth(&self) -> usize
         ensures { result ≡ length (on self.now) }
     {
@@ -22,6 +24,7 @@ impl<'a, T: Copy> Stack<'a, T> {
     }
 
     /// Puts an element on top. The caller has seen to it that there is room: this cannot refuse.
+    #[tactic(auto, using(crate::proofs::Stacks::length_stacked, crate::proofs::Stacks::stacked_push))]
     pub fn push(&mut self, x: T)
         requires { length (on self.old) < room self.old }
         ensures put { on self.new ≡ x ∷ on self.old }
@@ -32,6 +35,7 @@ impl<'a, T: Copy> Stack<'a, T> {
     }
 
     /// Takes the top off, where there is one.
+    #[tactic(auto, using(crate::proofs::Stacks::stacked_none, crate::proofs::Stacks::stacked_pop))]
     pub fn pop(&mut self) -> Option<T>
         ensures got { MatchOption result ((on self.old ≡ []) × (on self.new ≡ [])) (λ x. on self.old ≡ x ∷ on self.new) }
         ensures room { room self.new ≡ room self.old }

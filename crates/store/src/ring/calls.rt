@@ -8,11 +8,12 @@ use boxes::ValueBox;
 
 impl RingStore {
     /// A ring that holds nothing yet.
+    // Written by hand: an array of 64 places has no `Default`.
     pub fn new() -> RingStore
         ensures { recent result ≡ [] }
     {
         RingStore {
-            places: [ValueBox { sets: [0; 24] }; PLACES],
+            places: [ValueBox::default(); PLACES],
             next: 0,
             full: false,
         }
@@ -30,7 +31,7 @@ impl RingStore {
     fn has(&self, sought: &ValueBox) -> bool
         ensures { Decides result (ring.held self.now sought.now) }
     {
-        self.places[0..self.count()].contains(sought)
+        self.places[..self.count()].contains(sought)
     }
 
     // Puts a box at the next place, and moves on.

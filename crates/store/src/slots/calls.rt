@@ -57,16 +57,12 @@ impl<'a> Store for SlotStore<'a> {
     ghost told = { slotted.told };
 
     fn empty(&mut self) {
-        for i in 0..self.slots.len() {
-            self.slots[i] = None;
-        }
+        self.slots.fill(None);
     }
 
     fn seen(&mut self, sought: &ValueBox) -> bool {
-        match self.slots[self.slot_of(sought)] {
-            Some(known) => known == *sought,
-            None => false,
-        }
+        let known = self.slots[self.slot_of(sought)];
+        known == Some(*sought)
     }
 
     fn tell(&mut self, refuted: &ValueBox) {

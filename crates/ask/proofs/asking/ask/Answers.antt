@@ -1,22 +1,10 @@
-use Rattle.std.proofs.Common.{arith, rules}
+use Rattle.std.proofs.Common.{rules}
 use Rattle.book.specs.Books.{contents}
 use Rattle.ask.proofs.Starts.{trimmed_total, trial_whole}
 use Rattle.ask.proofs.asking.ask.Goals as goal
 
-pub search-requires : goal.search-requires
-search-requires g c =
-    let b = contents c.args.book.now in
-    record {
-      none = (c.new-open.ensures.none, c.new-saved.ensures.none);
-      values = trimmed_total b c.args.start.now.sets c.trim.new.sets c.trim.ensures;
-      rooms = (omega (arith, c.requires.branches, c.new-open.ensures.room), omega (arith, c.requires.trail, c.new-saved.ensures.room));
-      fit = c.requires.fit;
-    }
+pub search-requires-clause-values : goal.search-requires-clause-values
+search-requires-clause-values g c = trimmed_total (contents c.args.book.now) c.args.start.now.sets c.trim.new.sets c.trim.ensures
 
-pub returns : goal.returns
-returns g c =
-    let b = contents c.args.book.now in
-    record {
-      asks = trial_whole b _ _ _ c.args.start.now.sets c.trim.ensures (search rules) c.search.ensures.asks;
-      fit = c.search.ensures.fit;
-    }
+pub returns-clause-asks : goal.returns-clause-asks
+returns-clause-asks g c = trial_whole (contents c.args.book.now) _ _ _ c.args.start.now.sets c.trim.ensures (search rules) c.search.ensures.asks

@@ -1,7 +1,7 @@
 use Rattle.std.proofs.Common.{◌≡◌, ◌-◌, ◌≤◌, Some}
 use Rattle.book.specs.Books.{contents}
-use Rattle.stack.specs.Views.{on, room}
-use Rattle.branching.specs.Frames.{frames, Paired, Leads, Tried}
+use Rattle.branching.specs.Frames.{Leads, Tried}
+use Rattle.branching.specs.Searches.{frames_of, IsPaired, IsRoomy}
 use Rattle.ask.proofs.asking.search.Given as goal
 
 abbrev pub invariant-trials : goal.invariant-trials
@@ -9,11 +9,10 @@ invariant-trials g l =
     let S = g.row.S.Denot in
     let m = g.S.Store in
     let c = contents l.book in
-    Paired c (on l.branches) (on l.trail) l.sets
-    × Leads c S m (Some l.budget) (frames (on l.branches) (on l.trail) l.sets) l.sets l.store l.count (Tried c S m (Some l.budget) l.initial.sets l.initial.store 0)
+    IsPaired c l.current
+    × Leads c S m (Some l.budget) (frames_of l.current) l.current.sets l.store l.count (Tried c S m (Some l.budget) l.fn.sets l.initial.store 0)
     × (l.count ≤ l.budget)
-    × (room l.branches ≡ room l.initial.branches)
-    × (room l.trail ≡ room l.initial.trail)
+    × IsRoomy c l.current
     × (l.fit ≡ l.initial.fit)
 
 abbrev pub decreases-trials : goal.decreases-trials

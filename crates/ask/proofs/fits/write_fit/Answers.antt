@@ -1,28 +1,16 @@
-use Rattle.std.proofs.Common.{◌<◌, length, get_or, ap, arith}
-use Rattle.book.specs.Books.{contents}
-use Rattle.values.proofs.Digits.{some_from_ones}
-use Rattle.ask.proofs.Writings.{writing_none, writing_more, written}
+use Rattle.std.proofs.Common.{◌≡◌, ◌<◌, length, take, ap, subst, arith, get_or-take}
+use Rattle.std.proofs.lemmas.List.{length-take-le}
+use Rattle.values.specs.Members.{Lowest}
+use Rattle.ask.proofs.Writings.{writing_more}
 use Rattle.ask.proofs.fits.write_fit.Goals as goal
-
-pub loop-x-init : goal.loop-x-init
-loop-x-init c = writing_none c.args.sets.now c.args.fit.now
-
-pub lowest-requires : goal.lowest-requires
-lowest-requires c =
-    let s = get_or c.args.sets.now c.loop-x.x 0 in
-    some_from_ones s (omega (arith, c.requires.one c.loop-x.x (omega (arith, ap length c.sizes_of-options.ensures.value))))
 
 pub loop-x-preserved : goal.loop-x-preserved
 loop-x-preserved c =
     let x = c.loop-x.x in
-    let within : x < length c.loop-x.fit = omega (arith, c.requires.room, c.loop-x.auto.fit, ap length c.sizes_of-options.ensures.value) in
-    writing_more c.args.sets.now c.args.fit.now x c.loop-x.fit c.lowest.result c.loop-x.invariant within (c.fits-sets x) (c.requires.one x (omega (arith, ap length c.sizes_of-options.ensures.value))) c.lowest.ensures
-
-pub returns : goal.returns
-returns c =
-    let n = ap length c.sizes_of-options.ensures.value in
-    let m = c.loop-x.x in
-    record {
-      single = written (contents c.args.book.now) c.args.sets.now c.args.fit.now c.loop-x.fit m c.loop-x.invariant (omega (arith, n, c.loop-x-test.false, c.loop-x.auto.x-end)) (omega (arith, c.requires.room, c.loop-x.auto.fit));
-      rest = λ k l. c.loop-x.invariant.rest k (omega (arith, n, c.loop-x-test.false, c.loop-x.auto.x-end));
-    }
+    let array = c.args.sets.now in
+    let k = length c.sizes-options.result.now in
+    let n = ap length c.sizes-options.ensures.value in
+    let cut : length (take k array) ≡ k = length-take-le k array (omega (arith, c.sizes-options.ensures.few, c.told-sets)) in
+    let here : x < k = omega (arith, c.loop-x-test.true, cut) in
+    let low = subst (λ s. Lowest s c.lowest.result) (get_or-take k array x 0 here) c.lowest.ensures in
+    writing_more array c.args.fit.now x c.loop-x.fit c.lowest.result c.loop-x.invariant (omega (arith, here, c.requires.room, c.loop-x.auto.fit, n)) (c.requires.one x (omega (arith, here, n))) low

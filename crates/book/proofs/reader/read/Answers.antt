@@ -1,4 +1,4 @@
-use Rattle.std.proofs.Common.{◌≡◌, ℕ, ◌-◌, ◌<◌, ◌++◌, get_or, take, drop, sym, ap, ◌∙◌, arith}
+use Rattle.std.proofs.Common.{◌≡◌, ℕ, ◌-◌, ◌<◌, ◌++◌, get_or, take, drop, Err, sym, ap, ◌∙◌, arith}
 use native.Mathlib.Nat.{sub-zero}
 use Rattle.grammar.specs.Grammar.{book}
 use Rattle.book_source.specs.Files.{in_file}
@@ -18,7 +18,7 @@ returns-then-rows-count c =
     let is = (λ t. book (in_file (sym c.new-cursor.ensures.file t).now) (sym c.new-cursor.ensures.at t))
     ∙ sym c.read_from.ensures.value ∙ ap (λ r. told (contents_of out names) r c.read_from.new.source.at) c.in_ok-index.was in
     let value = read_refused file bytes (omega arith) out names i c.read_from.new.source.at is c.in_ok-index.ensures.shape (omega (arith, c.read_from.auto.out)) (omega (arith, c.read_from.auto.names)) c.args.rows.now (omega arith) in
-    record { value = value; rows = ap (λ r. filled r c.args.rows.now) value; index = tt }
+    record { value = ap Err c.whole-then-rows-count.ensures ∙ value; rows = ap (λ r. filled r c.args.rows.now) value; index = tt }
 
 pub returns : goal.returns
 returns c =

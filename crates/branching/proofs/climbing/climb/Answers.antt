@@ -1,11 +1,11 @@
-use Rattle.std.proofs.Common.{◌-◌, ◌^◌, ◌<◌, length, get_or, refl, ap, ◌∙◌, arith}
+use Rattle.std.proofs.Common.{◌-◌, ◌^◌, ◌<◌, [], length, get_or, refl, arith}
 use Rattle.book.specs.Books.{contents}
-use Rattle.propagate.proofs.Books.{valid}
+use Rattle.book.proofs.Sizes.{valid}
 use Rattle.stack.specs.Views.{on}
 use Rattle.stack.proofs.Rooms.{on_room}
 use Rattle.trail.specs.Trails.{branch}
 use Rattle.trail.specs.declared.kinds.Side.TheVariants.{Right}
-use Rattle.branching.specs.Frames.{frames}
+use Rattle.trail.proofs.Kept.{rooms_then}
 use Rattle.branching.proofs.Singles.{ones_less}
 use Rattle.branching.proofs.Opened.{shut, opened_as, paired_as, frames_none}
 use Rattle.branching.proofs.Rises.{climbing_close, climbing_turn, climbing_done}
@@ -15,60 +15,44 @@ pub climbing-preserved : goal.climbing-preserved
 climbing-preserved g c =
     let i = c.climbing.invariant in
     let e = c.in-Some.ensures in
-    let x = c.in-Some.branch in
-    let d = c.close.new.sets in
-    let b = contents c.args.book.now in
-    let k = shut b x (on c.climbing.branches) (on c.close.new.branches) (on c.climbing.trail) (on c.close.new.trail) c.climbing.sets d e.last i.0 in
-    let hs = frames (on c.close.new.branches) (on c.close.new.trail) d in
-    (k.paired, climbing_close b _ _ _ _ _ _ i.1 d x hs _ k.frames c.in-Right.is c.tell.ensures, e.rooms.0 ∙ i.2, e.rooms.1 ∙ i.3)
+    let k = shut _ _ _ _ _ _ _ _ e.last i.0 in
+    (k.paired, climbing_close _ _ _ _ _ _ _ i.1 _ c.in-Some.branch _ _ k.frames c.in-Right.is c.tell.ensures, rooms_then i.2 e.rooms)
 
-pub climbing-smaller : goal.climbing-smaller
-climbing-smaller g c =
+pub turn-requires-clause-branch : goal.turn-requires-clause-branch
+turn-requires-clause-branch g c =
     let e = c.in-Some.ensures in
-    omega (arith, ap length e.last.branches)
+    let k = shut _ _ _ _ _ _ _ _ e.last c.climbing.invariant.0 in
+    omega (arith, on_room c.climbing.search.branches, k.fewer, e.rooms.branches)
 
-pub turn-requires : goal.turn-requires
-turn-requires g c =
-    let i = c.climbing.invariant in
+pub turn-requires-clause-save : goal.turn-requires-clause-save
+turn-requires-clause-save g c =
     let e = c.in-Some.ensures in
-    let x = c.in-Some.branch in
-    let d = c.close.new.sets in
-    let b = contents c.args.book.now in
-    let k = shut b x (on c.climbing.branches) (on c.close.new.branches) (on c.climbing.trail) (on c.close.new.trail) c.climbing.sets d e.last i.0 in
-    record {
-      known = omega (arith, k.picked.known, (valid c.args.book.now).few);
-      member = k.picked.lowest.member;
-      branch = omega (arith, on_room c.climbing.branches, k.fewer, e.rooms.0);
-      save = omega (arith, on_room c.climbing.trail, k.saves, e.rooms.1);
-    }
+    let k = shut _ _ _ _ _ _ _ _ e.last c.climbing.invariant.0 in
+    omega (arith, on_room c.climbing.search.trail, k.saves, e.rooms.trail)
 
-pub returns-in-Left : goal.returns-in-Left
-returns-in-Left g c =
-    let i = c.climbing.invariant in
-    let e = c.in-Some.ensures in
-    let x = c.in-Some.branch in
-    let d = c.close.new.sets in
+pub returns-in-Left-clause-climbed : goal.returns-in-Left-clause-climbed
+returns-in-Left-clause-climbed g c =
     let b = contents c.args.book.now in
-    let k = shut b x (on c.climbing.branches) (on c.close.new.branches) (on c.climbing.trail) (on c.close.new.trail) c.climbing.sets d e.last i.0 in
-    let ys = on c.close.new.branches in
-    let us = on c.close.new.trail in
+    let x = c.in-Some.branch in
+    let s = c.close.new.self in
+    let k = shut _ _ _ _ _ _ _ _ c.in-Some.ensures.last c.climbing.invariant.0 in
     let o = c.turn.ensures in
-    let y = branch x.option x.value Right (length us) in
-    let few = (valid c.args.book.now).few in
-    let set = get_or d x.option 0 - 2 ^ x.value in
-    let within : x.option < length d = omega (arith, o.long, k.picked.known, few) in
-    record {
-      climbed = climbing_turn b _ _ _ _ _ _ i.1 d x (frames ys us d) _ _ k.frames c.in-Left.is (opened_as b few d set y ys us refl _ _ _ o.branches o.trail o.sets) o.sets;
-      paired = paired_as b few d set y ys us refl _ _ _ o.branches o.trail o.sets within (ones_less (get_or d x.option 0) x.value k.picked.lowest.member) k.picked k.paired;
-      rooms = (o.rooms.0 ∙ e.rooms.0 ∙ i.2, o.rooms.1 ∙ e.rooms.1 ∙ i.3);
-    }
+    let y = branch x.option x.value Right (length (on s.trail)) in
+    climbing_turn b _ _ _ _ _ _ c.climbing.invariant.1 s.sets x _ _ _ k.frames c.in-Left.is
+    (opened_as b (valid c.args.book.now).few s.sets (get_or s.sets x.option 0 - 2 ^ x.value) y _ _ refl _ _ _ o.branches o.trail o.sets) o.sets
 
-pub returns : goal.returns
-returns g c =
-    let i = c.climbing.invariant in
-    let e = c.in_default.ensures in
-    record {
-      climbed = climbing_done (contents c.args.book.now) _ _ _ _ _ _ i.1 (frames (on c.close.new.branches) (on c.close.new.trail) c.close.new.sets) c.close.new.sets (frames_none _ _ _ e.last.none);
-      paired = rw (e.last.still, e.last.trail, e.last.sets) (rw e.last.none at i.0);
-      rooms = (e.rooms.0 ∙ i.2, e.rooms.1 ∙ i.3);
-    }
+pub returns-in-Left-clause-paired : goal.returns-in-Left-clause-paired
+returns-in-Left-clause-paired g c =
+    let x = c.in-Some.branch in
+    let s = c.close.new.self in
+    let k = shut _ _ _ _ _ _ _ _ c.in-Some.ensures.last c.climbing.invariant.0 in
+    let o = c.turn.ensures in
+    let y = branch x.option x.value Right (length (on s.trail)) in
+    let few = (valid c.args.book.now).few in
+    let within : x.option < length s.sets = omega (arith, s.long, k.picked.known, few) in
+    paired_as (contents c.args.book.now) few s.sets (get_or s.sets x.option 0 - 2 ^ x.value) y _ _ refl _ _ _ o.branches o.trail o.sets within
+    (ones_less (get_or s.sets x.option 0) x.value k.picked.lowest.member) k.picked k.paired
+
+pub returns-clause-climbed : goal.returns-clause-climbed
+returns-clause-climbed g c =
+    climbing_done (contents c.args.book.now) _ _ _ _ _ _ c.climbing.invariant.1 [] c.close.new.self.sets (frames_none _ _ _ c.in_default.ensures.last.none)

@@ -1,9 +1,8 @@
-use Rattle.std.proofs.Common.{get_or, arith}
-use Rattle.values.proofs.Digits.{in_lt, in_ge}
+use Rattle.std.proofs.Common.{get_or, set, ap, ◌∙◌}
+use Rattle.branching.proofs.Singles.{without_is}
 use Rattle.branching.proofs.climbing.turn.Goals as goal
 
-pub only-requires : goal.only-requires
-only-requires c = in_lt 32 (get_or c.args.sets.now c.args.option 0) c.args.value (c.fits-sets c.args.option) c.requires.member
-
-pub overflow_sub-set : goal.overflow_sub-set
-overflow_sub-set c = omega (arith, c.only.ensures, in_ge (get_or c.args.sets.now c.args.option 0) c.args.value c.requires.member)
+pub returns-clause-sets : goal.returns-clause-sets
+returns-clause-sets c =
+    let a = c.args in
+    c.open.ensures.sets ∙ ap (set a.search.now.sets a.option) (without_is (get_or a.search.now.sets a.option 0) a.value _ c.requires.member c.without-set.ensures)

@@ -1,22 +1,11 @@
-use Rattle.std.proofs.Common.{◌≡◌, length, Ok, Err, sym, ap, ◌∙◌, arith}
-use Rattle.std.proofs.lemmas.Result.{err_from_is_err_and}
+use Rattle.std.proofs.Common.{◌≡◌, length, Ok, sym, ap, ◌∙◌, arith}
 use Rattle.grammar.specs.Grammar.{book}
 use Rattle.grammar.specs.Layout.{contents_of}
 use Rattle.book_source.specs.Readings.{told}
 use Rattle.draft.specs.Drafts.{in_draft}
 use Rattle.draft.specs.Written.{counted, overwritten}
-use Rattle.draft.proofs.WriteDraft.{write_refused, letters_spelled, letters_short, parts_valid, parts_fit, write_value, write_reread}
+use Rattle.draft.proofs.WriteDraft.{letters_spelled, letters_short, parts_valid, parts_fit, write_value, write_reread}
 use Rattle.draft.proofs.writer.write.Goals as goal
-
-pub returns-in_err-index : goal.returns-in_err-index
-returns-in_err-index c =
-    let p = err_from_is_err_and c.from_residual.result c.from_residual.ensures.1 in
-    let d = c.args.draft.now in
-    let e = c.in_err-index.field-0.0 in
-    let is : book (in_draft d) 0 ≡ Err e = (λ t. book (in_draft (sym c.new-source.ensures.draft t)) (sym c.new-source.ensures.at t))
-    ∙ sym c.read_from.ensures.value ∙ ap (λ r. told (contents_of c.read_from.new.out c.read_from.new.names) r c.read_from.new.source.at) c.in_err-index.was in
-    let value = write_refused d (length c.args.out.now) e is in
-    rw (p.1, p.2) (record { value = ap counted value; out = ap (λ r. overwritten r c.args.out.now) value; inside = tt; reread = tt })
 
 pub write_parts-requires : goal.write_parts-requires
 write_parts-requires c =
@@ -28,9 +17,11 @@ write_parts-requires c =
     ∙ sym c.read_from.ensures.value ∙ ap (λ r. told (contents_of rows names) r c.read_from.new.source.at) c.in_ok-index.was in
     let h = c.in_ok-index.ensures.shape in
     record {
-      valid = parts_valid d rows names i _ is h (omega (arith, c.read_from.auto.names));
-      spelled = letters_spelled d rows names i _ is h (omega (arith, c.read_from.auto.names));
-      short = letters_short d rows names i _ is h (omega (arith, c.read_from.auto.names));
+      parts = record {
+        valid = parts_valid d rows names i _ is h (omega (arith, c.read_from.auto.names));
+        spelled = letters_spelled d rows names i _ is h (omega (arith, c.read_from.auto.names));
+        short = letters_short d rows names i _ is h (omega (arith, c.read_from.auto.names));
+      };
       fit = parts_fit d rows names i _ is h (omega (arith, c.read_from.auto.names));
     }
 

@@ -1,4 +1,4 @@
-use Rattle.std.proofs.Common.{◌≡◌, length, sym, ◌∙◌, arith}
+use Rattle.std.proofs.Common.{◌≡◌, length, Err, sym, ap, ◌∙◌, arith}
 use Rattle.draft.specs.Encoding.{encode}
 use Rattle.draft.specs.Written.{contents_in}
 use Rattle.draft.proofs.Fitting.{no_value, no_change, put_value, put_change}
@@ -8,7 +8,7 @@ use Rattle.draft.proofs.writer.write_parts.Goals as goal
 pub returns : goal.returns
 returns c =
     let p = contents_in c.args.parts.now in
-    let n : length (encode p) ≡ c.file_length-needed.result = length_encode p c.requires.valid ∙ sym c.file_length-needed.ensures in
+    let n : length (encode p) ≡ c.file_length-needed.result = length_encode p c.requires.parts.valid ∙ sym c.file_length-needed.ensures in
     record {
       value = put_value (encode p) c.args.out.now _ n c.if-out-needed.false;
       out = put_change (encode p) c.args.out.now _ n _ c.put_book.ensures c.if-out-needed.false;
@@ -18,5 +18,5 @@ returns c =
 pub returns-then-out-needed : goal.returns-then-out-needed
 returns-then-out-needed c =
     let p = contents_in c.args.parts.now in
-    let n : length (encode p) ≡ c.file_length-needed.result = length_encode p c.requires.valid ∙ sym c.file_length-needed.ensures in
-    record { value = no_value (encode p) c.args.out.now _ n c.if-out-needed.true; out = no_change (encode p) c.args.out.now _ n c.if-out-needed.true; inside = tt }
+    let n : length (encode p) ≡ c.file_length-needed.result = length_encode p c.requires.parts.valid ∙ sym c.file_length-needed.ensures in
+    record { value = ap Err c.whole.ensures ∙ no_value (encode p) c.args.out.now _ n c.if-out-needed.true; out = no_change (encode p) c.args.out.now _ n c.if-out-needed.true; inside = tt }

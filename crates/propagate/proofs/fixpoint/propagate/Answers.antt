@@ -1,7 +1,7 @@
 use Rattle.std.proofs.Common.{arith}
 use Rattle.book.specs.Books.{contents}
 use Rattle.propagate.specs.Sets.{sets_of}
-use Rattle.propagate.proofs.Books.{valid}
+use Rattle.book.proofs.Sizes.{valid}
 use Rattle.propagate.proofs.Ends.{settled_all}
 use Rattle.propagate.proofs.fixpoint.propagate.Goals as goal
 

@@ -1,6 +1,6 @@
 use Rattle.std.proofs.Common.{refl}
 use Rattle.book.specs.Books.{contents}
-use Rattle.propagate.proofs.Books.{valid}
+use Rattle.book.proofs.Sizes.{valid}
 use Rattle.propagate.proofs.Ends.{settled_at, leaves_none_at, propagated}
 use Rattle.propagate.proofs.fixpoint.propagate_from.Goals as goal
 

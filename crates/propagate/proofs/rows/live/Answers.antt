@@ -1,20 +1,22 @@
-use Rattle.std.proofs.Common.{◌<◌, ◌≤◌, length, get_or, refl, arith, rules}
-use Rattle.std.proofs.lemmas.Bool.{false≢true}
-use Rattle.values.specs.Members.{In}
+use Rattle.std.proofs.Common.{◌<◌, arith, rules, tests}
+use Rattle.std.proofs.lemmas.Iterator.{cases_from_all, YieldsList-from_slice, YieldsList-from_zip}
+use Rattle.std.proofs.lemmas.Iterator.Adapters.{serves_from_places}
 use Rattle.propagate.specs.Sets.{placed}
-use Rattle.propagate.proofs.Living.{live_if, if_live}
+use Rattle.propagate.proofs.Living.{GoesOn, Stops, firsts_at, seconds_at, live_decided}
 use Rattle.propagate.proofs.rows.live.Goals as goal
 
-pub returns-then-not-has : goal.returns-then-not-has
-returns-then-not-has c =
-    let long : length c.args.scope.now ≤ length c.args.row.now = omega (arith, c.requires.few) in
-    let j = c.loop-j.j in
-    let here : j < length c.args.scope.now = omega arith in (
-      λ e. absurd (false≢true e),
-      λ l. let h : In (get_or c.args.sets.now (get_or c.args.scope.now j 0) 0) (get_or c.args.row.now j 0) = if_live (placed c.args.sets.now) c.args.scope.now c.args.row.now long l j here in search rules,
-    )
+pub all-requires-clause-callable : goal.all-requires-clause-callable
+all-requires-clause-callable c =
+    let scope = c.args.scope.now in
+    let row = c.args.row.now in
+    serves_from_places (YieldsList-from_zip (YieldsList-from_slice scope cc) (YieldsList-from_slice row cc)) (λ x q k. search (rules, tests)) (λ x k l e.
+    let known : x.0.now < 24 = firsts_at scope row c.requires.long (λ x. x < 24) k (x.0.now, x.1.now) l e c.requires.known in
+    let small : x.1.now < 32 = seconds_at scope row c.requires.long (λ x. x < 32) k (x.0.now, x.1.now) l e c.requires.small in
+    search (rules, arith))
 
 pub returns : goal.returns
 returns c =
-    let long : length c.args.scope.now ≤ length c.args.row.now = omega (arith, c.requires.few) in
-    (λ _. live_if (placed c.args.sets.now) c.args.scope.now c.args.row.now long (λ j l. c.loop-j.invariant j (omega arith)), λ _. refl)
+    let scope = c.args.scope.now in
+    let row = c.args.row.now in
+    let sets = placed c.args.sets.now in
+    live_decided scope row c.requires.long sets c.all.result (cases_from_all c.all.new.self _ c.all.result (GoesOn sets) (Stops sets) c.all.ensures.ran (YieldsList-from_zip {s = c.zip.result} (YieldsList-from_slice scope cc) (YieldsList-from_slice row cc)) (λ x q k. search (rules, tests)) (λ x q k. search (rules, tests)))

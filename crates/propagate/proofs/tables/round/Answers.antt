@@ -1,30 +1,27 @@
-use Rattle.std.proofs.Common.{◌<◌, [], ◌∷◌, ◌++◌, map, length, get_or, take, sym, ◌∙◌, subst, subst₂, arith}
-use Rattle.std.proofs.lemmas.List.{take_all, map_more}
+use Rattle.std.proofs.Common.{◌<◌, [], ◌∷◌, ◌++◌, map, length, get_or, take, sym, subst, subst₂, arith}
+use Rattle.std.proofs.lemmas.List.{map_more}
 use Rattle.std.proofs.lemmas.Bool.Decides.{not_from_Decides}
 use Rattle.book.specs.Books.{contents}
 use Rattle.propagate.specs.Sets.{placed}
 use Rattle.propagate.specs.Support.{Mentions, Upheld}
 use Rattle.propagate.specs.Propagation.{Avoids}
-use Rattle.propagate.proofs.Books.{table_at, blank, one_of, all_at, valid, scope_known}
-use Rattle.propagate.proofs.Rounds.{Rounding, rounding_none, rounding_skip, cut_more, rounding_revise}
+use Rattle.propagate.proofs.Books.{table_at, blank, one_of, all_at, scope_known, scope_under}
+use Rattle.propagate.proofs.Rounds.{Rounding, rounding_skip, cut_more, rounding_revise}
 use Rattle.propagate.proofs.tables.round.Goals as goal
 use Rattle.propagate.proofs.tables.round.Goals.{then-touches+else-starves, else-touches}
 
-pub loop-table-init : goal.loop-table-init
-loop-table-init c = rounding_none _ _
-
 pub touches-requires : goal.touches-requires
-touches-requires c j l =
+touches-requires c =
     let b = c.args.book.now in
-    omega (arith, scope_known b _ (one_of b c.tables-tables.result.now c.loop-table.table-index c.tables-tables.ensures c.loop-table-test.true) _ c.scope_of-scope.ensures j l, (valid b).few)
+    scope_under b _ (one_of b c.tables-tables.result.now c.loop-table.table-index c.tables-tables.ensures c.loop-table-test.true) _ c.own_scope-scope.ensures 32 (omega arith)
 
 pub revise-changed-requires : goal.revise-changed-requires
 revise-changed-requires c = one_of c.args.book.now c.tables-tables.result.now c.loop-table.table-index c.tables-tables.ensures c.loop-table-test.true
 
 pub starves-requires : goal.starves-requires
-starves-requires c j l =
+starves-requires c =
     let b = c.args.book.now in
-    omega (arith, scope_known b _ (one_of b c.tables-tables.result.now c.loop-table.table-index c.tables-tables.ensures c.loop-table-test.true) _ c.scope_of-scope.ensures j l, (valid b).few)
+    scope_under b _ (one_of b c.tables-tables.result.now c.loop-table.table-index c.tables-tables.ensures c.loop-table-test.true) _ c.own_scope-scope.ensures 24 (omega arith)
 
 pub returns-then-starves : goal.returns-then-starves
 returns-then-starves c =
@@ -34,7 +31,7 @@ returns-then-starves c =
     let t = get_or tables i blank in
     let one = one_of b tables i c.tables-tables.ensures c.loop-table-test.true in
     let empty = c.starves.ensures.0 c.if-starves.true in
-    let known = scope_known b t one _ c.scope_of-scope.ensures empty.1.0 empty.1.1 in
+    let known = scope_known b t one _ c.own_scope-scope.ensures empty.1.0 empty.1.1 in
     record {
       cut = cut_more (contents b) c.args.sets.now _ c.loop-table.sets c.loop-table.changed c.loop-table.invariant (table_at b t) c.revise-changed.new.sets c.revise-changed.result c.revise-changed.ensures
           (λ sets. all_at (λ t. Upheld t sets) b tables i c.tables-tables.ensures c.loop-table-test.true);
@@ -59,12 +56,5 @@ loop-table-preserved c =
           subst₂ (Rounding (contents b) before (done ++ table_at b t ∷ [])) (sym w.sets-is) (sym w.changed-is)
           (rounding_skip (contents b) before done c.loop-table.sets c.loop-table.changed c.loop-table.invariant (table_at b t) c.args.pending
           (all_at (λ t. Avoids t.scope c.args.pending → Upheld t (placed before)) b tables i c.tables-tables.ensures c.loop-table-test.true c.requires)
-          (λ h. not_from_Decides c.touches.result c.touches.ensures w.if-touches.false (h.0, subst (λ s. Mentions s h.0) (sym c.scope_of-scope.ensures) h.1, h.2)))
+          (λ h. not_from_Decides c.touches.result c.touches.ensures w.if-touches.false (h.0, subst (λ s. Mentions s h.0) (sym c.own_scope-scope.ensures) h.1, h.2)))
     ])
-
-pub returns : goal.returns
-returns c =
-    let b = c.args.book.now in
-    let all = subst (λ ts. Rounding (contents b) c.args.sets.now (map (table_at b) ts) c.loop-table.sets c.loop-table.changed)
-    (take_all c.loop-table.table-index c.tables-tables.result.now c.loop-table-test.false ∙ c.tables-tables.ensures) c.loop-table.invariant in
-    record { cut = all.cut; settled = λ _. all.settled }

@@ -7,16 +7,12 @@ use Rattle.book_source.proofs.Each.{sofar_more, sofar_stop, sofar_all}
 use Rattle.reading.proofs.Pairs.{pairs, pairs_push, firsts, seconds}
 use Rattle.reading.proofs.options.shapes.Goals as goal
 
-pub returns-in_err-size : goal.returns-in_err-size
-returns-in_err-size g c =
+pub returns-in_err-size-clause-value : goal.returns-in_err-size-clause-value
+returns-in_err-size-clause-value g c =
     let p = err_from_is_err_and c.from_residual.result c.from_residual.ensures.1 in
-    let so = c.loop-i.invariant.0 in
-    rw (p.1, p.2) (record {
-      value = ap (λ r. and_then r (λ q. Ok ((map (λ o. o.0) q.0, map (λ o. o.1) q.0), q.1)))
-          (sofar_stop _ _ _ _ _ _ _ _ _ _ so (λ v. v) c.shape.result c.in_err-size.field-0.0 _ c.loop-i-test.true c.in_err-size.was c.shape.ensures.value);
-      same = c.shape.ensures.same ∙ so.same;
-      total = tt;
-    })
+    rw (p.1, p.2) (
+    ap (λ r. and_then r (λ q. Ok ((map (λ o. o.0) q.0, map (λ o. o.1) q.0), q.1)))
+    (sofar_stop _ _ _ _ _ _ _ _ _ _ c.loop-i.invariant.0 (λ v. v) c.shape.result c.in_err-size.field-0.0 _ c.loop-i-test.true c.in_err-size.was c.shape.ensures.value))
 
 pub loop-i-preserved : goal.loop-i-preserved
 loop-i-preserved g c =
@@ -36,17 +32,13 @@ loop-i-preserved g c =
       omega (arith, c.loop-i.invariant.2, c.in_ok-size.ensures.range.1),
     )
 
-pub returns : goal.returns
-returns g c =
+pub returns-clause-value : goal.returns-clause-value
+returns-clause-value g c =
     let n = c.args.count in
     let sizes = take n c.loop-i.sizes in
     let lengths = take n c.loop-i.lengths in
     let end : c.loop-i.i ≡ n = omega arith in
     let even : length sizes ≡ length lengths = length-take-le n c.loop-i.sizes (omega arith) ∙ sym (length-take-le n c.loop-i.lengths (omega arith)) in
     let all = sofar_all _ _ _ _ _ _ _ _ _ _ c.loop-i.invariant.0 (pairs sizes lengths) c.loop-i-test.false (λ t. pairs (take (sym end t) c.loop-i.sizes) (take (sym end t) c.loop-i.lengths)) in
-    record {
-      value = (λ t. Ok ((sym (firsts sizes lengths even) t, sym (seconds sizes lengths even) t), g.S.Source.place c.loop-i.source))
-          ∙ ap (λ r. and_then r (λ q. Ok ((map (λ o. o.0) q.0, map (λ o. o.1) q.0), q.1))) all;
-      same = c.loop-i.invariant.0.same;
-      total = (c.loop-i.invariant.1 ∙ ap (λ k. sum (take k c.loop-i.lengths)) end, omega (arith, c.loop-i.invariant.2));
-    }
+    (λ t. Ok ((sym (firsts sizes lengths even) t, sym (seconds sizes lengths even) t), g.S.Source.place c.loop-i.source))
+    ∙ ap (λ r. and_then r (λ q. Ok ((map (λ o. o.0) q.0, map (λ o. o.1) q.0), q.1))) all

@@ -1,31 +1,23 @@
-use Rattle.std.proofs.Common.{[], ◌∷◌, ◌++◌, map, get_or, take, sym, ◌∙◌, subst, arith}
-use Rattle.std.proofs.lemmas.List.{take_all, map_more}
+use Rattle.std.proofs.Common.{[], ◌∷◌, ◌++◌, map, get_or, take, sym, subst, arith}
+use Rattle.std.proofs.lemmas.List.{map_more}
 use Rattle.std.proofs.lemmas.Bool.Decides.{not_from_Decides}
 use Rattle.propagate.specs.Sets.{placed}
 use Rattle.propagate.specs.Support.{Mentions}
-use Rattle.propagate.proofs.Books.{table_at, blank, one_of, valid, scope_known}
+use Rattle.propagate.proofs.Books.{table_at, blank, one_of, scope_under}
 use Rattle.reduce.specs.Steps.{Marks, Binds}
-use Rattle.reduce.proofs.Bindings.{binds_none, binds_known, binds_universal, binds_marked}
+use Rattle.reduce.proofs.Bindings.{binds_known, binds_universal, binds_marked}
 use Rattle.reduce.proofs.boxing.bound_options.Goals as goal
 use Rattle.reduce.proofs.boxing.bound_options.Goals.{then-adds+then-not-covers, else-adds, else-adds-via-then-adds+else-not-covers, else-adds-via-else-adds}
 
 pub adds-requires : goal.adds-requires
-adds-requires c j l =
+adds-requires c =
     let b = c.args.book.now in
-    let one = one_of b c.tables-tables.result.now c.loop-table.table-index c.tables-tables.ensures c.loop-table-test.true in
-    omega (arith, scope_known b _ one _ c.scope_of-scope.ensures j l, (valid b).few)
-
-pub covers-requires : goal.covers-requires
-covers-requires c = one_of c.args.book.now c.tables-tables.result.now c.loop-table.table-index c.tables-tables.ensures c.loop-table-test.true
+    scope_under b _ (one_of b c.tables-tables.result.now c.loop-table.table-index c.tables-tables.ensures c.loop-table-test.true) _ c.own_scope-scope.ensures 32 (omega arith)
 
 pub mark-bound-requires : goal.mark-bound-requires
-mark-bound-requires c j l =
+mark-bound-requires c =
     let b = c.args.book.now in
-    let one = one_of b c.tables-tables.result.now c.loop-table.table-index c.tables-tables.ensures c.loop-table-test.true in
-    omega (arith, scope_known b _ one _ c.scope_of-scope.ensures j l, (valid b).few)
-
-pub loop-table-init : goal.loop-table-init
-loop-table-init c = binds_none _ _ (omega arith)
+    scope_under b _ (one_of b c.tables-tables.result.now c.loop-table.table-index c.tables-tables.ensures c.loop-table-test.true) _ c.own_scope-scope.ensures 32 (omega arith)
 
 pub loop-table-preserved : goal.loop-table-preserved
 loop-table-preserved c =
@@ -35,7 +27,7 @@ loop-table-preserved c =
     let i = c.loop-table.table-index in
     let t = get_or tables i blank in
     let done = map (table_at b) (take i tables) in
-    let scope-is = c.scope_of-scope.ensures in
+    let scope-is = c.own_scope-scope.ensures in
     subst (λ ts. Binds sets ts c.if-adds.bound) (sym (map_more (table_at b) tables i blank c.loop-table-test.true))
     (elim c.if-adds.branch [
       | then-adds+then-not-covers w ↦
@@ -51,9 +43,3 @@ loop-table-preserved c =
                 (λ h. not_from_Decides c.adds.result c.adds.ensures w'.if-adds.false (h.0, subst (λ s. Mentions s h.0) (sym scope-is) h.1, h.2))
           ])
     ])
-
-pub returns : goal.returns
-returns c =
-    let b = c.args.book.now in
-    subst (λ ts. Binds (placed c.args.sets.now) (map (table_at b) ts) c.loop-table.bound)
-    (take_all c.loop-table.table-index c.tables-tables.result.now c.loop-table-test.false ∙ c.tables-tables.ensures) c.loop-table.invariant

@@ -1,6 +1,5 @@
 use Rattle.std.proofs.Common.{◌≡◌, ℕ, ◌<◌, [], length, get_or, sym, ap, ◌∙◌, subst, arith}
 use Rattle.std.proofs.lemmas.List.{get_or-map, length-map}
-use Rattle.std.proofs.lemmas.Bool.{false≢true}
 use Rattle.std.proofs.lemmas.Bool.Decides.{Decides-like}
 use Rattle.grammar.specs.Contents.{Table}
 use Rattle.book.specs.Books.{contents, tables_at}
@@ -15,12 +14,6 @@ no_table = record { scope = []; rows = [] }
 
 pub covers-requires : goal.covers-requires
 covers-requires c = one_of c.args.book.now c.tables-tables.result.now c.args.table c.tables-tables.ensures (omega arith)
-
-pub returns-then-table-tables : goal.returns-then-table-tables
-returns-then-table-tables c = (
-  λ e. absurd (false≢true e),
-  λ u. absurd (omega (arith, u.0, ap length c.tables-tables.ensures, length-map (tables_at c.args.book.now) (table_at c.args.book.now))),
-)
 
 pub returns : goal.returns
 returns c =

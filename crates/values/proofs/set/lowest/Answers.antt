@@ -1,10 +1,6 @@
 use Rattle.std.proofs.Common.{◌^◌, ◌<◌, arith}
-use lib.Count.{trailing_le}
 use Rattle.values.proofs.Digits.{trailing_member, trailing_lowest}
 use Rattle.values.proofs.set.lowest.Goals as goal
-
-pub overflow_cast-result : goal.overflow_cast-result
-overflow_cast-result c = omega (arith, trailing_le 32 c.args.set)
 
 pub returns : goal.returns
 returns c =

@@ -1,12 +1,12 @@
-use Rattle.sheet.proofs.Keeping.{keeps_withdraws_as}
+use Rattle.sheet.specs.declared.decision.Kind.TheVariants.{Bar}
+use Rattle.sheet.proofs.Keeping.{keeps_unwithdrawn, withdrawn_named, keeps_withdrawn_named}
 use Rattle.sheet.proofs.open.Sheet.withdraw_bar.Goals as goal
 
-pub returns : goal.returns
-returns c =
-    let e = c.withdraw.ensures in
-    let b = c.args.book.now in
-    record {
-      value = e.value;
-      sheet = e.sheet;
-      stands = λ calls so. keeps_withdraws_as b calls _ _ c.args.self.now.long so c.args.person _ c.args.option c.args.value _ e.value e.sheet;
-    }
+pub returns-in_err-ask-clause-stands : goal.returns-in_err-ask-clause-stands
+returns-in_err-ask-clause-stands c = keeps_unwithdrawn c.args.book.now c.args.self.now.sets c.args.self.now.long c.args.person Bar c.args.option c.args.value _ c.in_err-ask.ensures
+
+pub returns-clause-sheet : goal.returns-clause-sheet
+returns-clause-sheet c = withdrawn_named c.args.book.now c.args.self.now.sets c.args.self.now.long c.args.person Bar c.args.option c.args.value _ c.in_ok-ask.ensures c.withdraw.result _ c.withdraw.ensures.sheet
+
+pub returns-clause-stands : goal.returns-clause-stands
+returns-clause-stands c = keeps_withdrawn_named c.args.book.now c.args.self.now.sets c.args.self.now.long c.args.person Bar c.args.option c.args.value _ c.in_ok-ask.ensures c.withdraw.result _ c.withdraw.ensures.value c.withdraw.ensures.sheet

@@ -1,6 +1,0 @@
-use Rattle.std.proofs.Common.{◌-◌, arith}
-use Rattle.grammar.proofs.Windows.{take_min}
-use Rattle.grammar.proofs.index.TableIndex.own_scope.Goals as goal
-
-pub returns : goal.returns
-returns c = take_min c.args.self.now.scope c.args.self.now.arity (c.min.result - 0) (omega (arith, c.min.ensures))
