@@ -15,6 +15,7 @@ pub fn write_fit(book: &Book, sets: &[u32; 24], fit: &mut [u8])
     ensures rest { (k : ℕ) → length (contents book.now).sizes ≤ k → slice_index fit.new k ≡ slice_index fit.old k }
 {
     let options = book.sizes().len();
+    // By the option's number: of what is written through a zip nothing is known afterwards.
     for (x, set) in sets[..options].iter().enumerate() {
         fit[x] = lowest(*set);
     }

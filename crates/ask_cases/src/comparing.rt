@@ -3,7 +3,7 @@ use crate::random::random_sets;
 use ask::Answer;
 use book::Book;
 use forgetful::ForgetfulStore;
-use made_books::{Dice, Plan, Told, has_fit, is_fit, put_to, untouched};
+use made_books::{Dice, Plan, Told, has_fit, is_fit, put_to, raise, untouched};
 use propagate::ValueSets;
 use store::{BlankStore, RingStore, Slot, SlotStore, Store};
 
@@ -44,11 +44,6 @@ struct Known {
     fit: bool,
     /// How many trials it takes without memory.
     most: u32,
-}
-
-/// One more.
-fn raise(count: &mut usize) {
-    *count = count.wrapping_add(1);
 }
 
 impl Tally {

@@ -27,3 +27,16 @@ pub fn load(rt: &HostRuntime) -> Vec<u8> {
         Err(_) => Vec::new(rt.alloc()),
     }
 }
+
+#[cfg(test)]
+mod tests {
+    use super::*;
+    use std::test::Fail;
+
+    #[test]
+    fn all_bytes_of_a_short_file(rt: HostRuntime) -> Result<(), Fail> {
+        let bytes = first_bytes(rt.alloc(), &b"book"[..])?;
+        assert!(rt; bytes.as_slice() == b"book".as_slice());
+        Ok(())
+    }
+}

@@ -40,6 +40,7 @@ impl fmt::Display for Reply<'_> {
     }
 }
 
+// A call beside the `Display`, since its contract gives every byte of a line.
 /// The line that tells a reply, without its line feed.
 pub fn line(heap: Global, reply: Reply) -> Result<String, AllocError>
     ensures { IfOk result (λ s. string_bytes s ≡ printed reply.entry) }

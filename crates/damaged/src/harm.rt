@@ -2,6 +2,7 @@
 use made_books::Dice;
 use std::alloc::{AllocError, Global};
 
+// An enum and no closures: the ways are named, and gone through as a list.
 /// Ways to damage a file.
 #[derive(Clone, Copy)]
 pub enum Harm {

@@ -6,7 +6,7 @@ mod harm;
 
 use crate::harm::{HARMS, harmed};
 use book::Row;
-use made_books::{Dice, build, random_plan};
+use made_books::{Dice, Refusals, build, raise, random_plan};
 use readings::{first, second};
 use std::io;
 
@@ -20,13 +20,8 @@ const TIMES: usize = 4;
 #[derive(Default, Drop)]
 struct Tally {
     read: usize,
-    refusals: [usize; 24],
+    refusals: Refusals,
     differences: usize,
-}
-
-/// One more.
-fn raise(count: &mut usize) {
-    *count = count.wrapping_add(1);
 }
 
 impl Tally {
@@ -36,11 +31,7 @@ impl Tally {
         let ours = first(file, rows);
         match ours {
             Ok(_) => raise(&mut self.read),
-            Err(refusal) => {
-                if let Some(count) = self.refusals.get_mut(refusal.question.number() as usize) {
-                    raise(count);
-                }
-            }
+            Err(refusal) => self.refusals.note(refusal.question),
         }
         let alike = ours == theirs;
         if !alike {
@@ -53,12 +44,7 @@ impl Tally {
         let read = self.read;
         let differences = self.differences;
         println!(rt; "{what}: {read} read, {differences} differences")?;
-        for (number, count) in self.refusals.iter().enumerate() {
-            if *count > 0 {
-                println!(rt; "  refused by {number}: {count}")?;
-            }
-        }
-        Ok(())
+        self.refusals.show(rt, "  refused by ")
     }
 }
 

@@ -10,10 +10,9 @@ pub trait Limits {
 
 impl Limits for ValueSets {
     fn leaves(&self, option: usize, value: usize) -> bool {
-        match self.sets.get(option) {
-            Some(set) => (*set >> (value % 32)) % 2 == 1,
-            None => false,
-        }
+        self.sets
+            .get(option)
+            .is_some_and(|set| (*set >> (value % 32)) % 2 == 1)
     }
 }
 

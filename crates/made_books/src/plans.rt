@@ -1,5 +1,7 @@
 // What a book is to say, before it is a file.
-ghost use Rattle.std.specs.Prelude.{◌≡◌, ◌≤◌, length};
+ghost use Rattle.std.specs.Prelude.{◌≡◌, ◌≤◌, ◌%◌, ◌++◌, ◌∷◌, [], ◌==◌, length, count_by, OnOk, Decides, not, true};
+ghost use Rattle.arrayvec.specs.ArrayVec.{array_vec_len};
+ghost use Rattle.made_books.specs.Rules.{IsOdd};
 
 use arrayvec::ArrayVec;
 use std::alloc::{AllocError, Global};
@@ -48,9 +50,18 @@ pub(crate) fn count_by(sizes: &mut [u8], number: usize) {
     }
 }
 
+/// How many of the values are odd.
+fn odd_values(values: &[u8]) -> usize
+    ensures { result ≡ count_by (λ v. v % 2 == 1) values.now }
+{
+    values.iter().filter(|value| **value % 2 == 1).count()
+}
+
 /// Whether the values have an odd sum.
-fn is_odd(values: &[u8]) -> bool {
-    values.iter().filter(|value| **value % 2 == 1).count() % 2 == 1
+fn is_odd(values: &[u8]) -> bool
+    ensures { Decides result (IsOdd values.now) }
+{
+    odd_values(values) % 2 == 1
 }
 
 impl Table {
@@ -67,10 +78,12 @@ impl Table {
     }
 
     /// What stands at the places of the table's options.
-    fn of(&self, numbers: &[u8]) -> ArrayVec<u8, 3> {
+    fn of(&self, numbers: &[u8]) -> ArrayVec<u8, 3>
+        ensures { array_vec_len result ≡ array_vec_len self.now.scope }
+    {
         let mut found = ArrayVec::new();
-        for option in &self.scope {
-            let _ = found.try_push(at(numbers, *option));
+        for option in self.scope.as_slice() {
+            found.push(at(numbers, *option));
         }
         found
     }
@@ -82,7 +95,9 @@ impl Table {
     }
 
     /// The row with this number in rising order.
-    pub fn row(&self, sizes: &[u8], number: usize) -> ArrayVec<u8, 3> {
+    pub fn row(&self, sizes: &[u8], number: usize) -> ArrayVec<u8, 3>
+        ensures { array_vec_len result ≡ array_vec_len self.now.scope }
+    {
         let mut row = self.of(sizes);
         count_by(&mut row, number);
         row
@@ -99,7 +114,10 @@ impl Table {
     }
 
     /// Whether the table lists the row.
-    pub fn lists(&self, sizes: &[u8], row: &[u8]) -> bool {
+    pub fn lists(&self, sizes: &[u8], row: &[u8]) -> bool
+        ensures even { self.now.rule ≡ Rule.Even → Decides result (IsOdd row.now → ⊥) }
+        ensures odd { self.now.rule ≡ Rule.Odd → Decides result (IsOdd row.now) }
+    {
         match self.rule {
             Rule::Different => row.get(0) != row.get(1),
             Rule::Even => !is_odd(row),
@@ -114,7 +132,11 @@ impl Table {
     }
 
     /// The rows that the table lists, in rising order.
-    pub fn listed(&self, heap: Global, sizes: &[u8]) -> Result<Vec<ArrayVec<u8, 3>>, AllocError> {
+    pub(crate) fn listed(
+        &self,
+        heap: Global,
+        sizes: &[u8],
+    ) -> Result<Vec<ArrayVec<u8, 3>>, AllocError> {
         let mut listed = Vec::new(heap);
         for number in 0..self.rows(sizes) {
             let row = self.row(sizes, number);
@@ -152,7 +174,10 @@ impl Plan {
     }
 
     /// One table more.
-    pub fn add(&mut self, table: Table) -> Result<(), AllocError> {
+    pub fn add(&mut self, table: Table) -> Result<(), AllocError>
+        ensures sizes { self.new.sizes ≡ self.old.sizes }
+        ensures tables { OnOk result (self.new.tables.items ≡ self.old.tables.items ++ table ∷ []) }
+    {
         self.tables.push(table)?;
         Ok(())
     }

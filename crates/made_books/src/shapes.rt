@@ -1,4 +1,6 @@
 // Plans of some shapes.
+ghost use Rattle.std.specs.Prelude.{◌≡◌, ◌∷◌, [], IfOk};
+
 use crate::plans::{Plan, Rule, Table};
 use std::alloc::{AllocError, Global};
 
@@ -14,7 +16,9 @@ pub fn pigeons(heap: Global, options: usize, rule: Rule) -> Result<Plan, AllocEr
 }
 
 /// The sample book: gate, divider and stand.
-pub fn sample(heap: Global) -> Result<Plan, AllocError> {
+pub fn sample(heap: Global) -> Result<Plan, AllocError>
+    ensures { IfOk result (λ p. p.sizes.items ≡ 3 ∷ 2 ∷ 2 ∷ []) }
+{
     let mut plan = Plan::of(heap, &[3, 2, 2]);
     plan.add(Table::on(&[0, 1], Rule::Rows(0b101101)))?;
     plan.add(Table::on(&[1, 2], Rule::Rows(0b1011)))?;

@@ -1,5 +1,5 @@
 // What is lent to an ask.
-ghost use Rattle.std.specs.Prelude.{◌≡◌, replicate, Decides, All};
+ghost use Rattle.std.specs.Prelude.{◌≡◌, length, replicate, Decides, All};
 
 use ask::Work;
 use trail::{Branch, Saved, Side};
@@ -31,7 +31,11 @@ impl<const PLACES: usize> WorkPlaces<PLACES> {
     }
 
     /// All places, lent.
-    pub fn lend(&mut self) -> Work<'_> {
+    pub fn lend(&mut self) -> Work<'_>
+        ensures branches { length result.branches.now ≡ PLACES }
+        ensures trail { length result.trail.now ≡ PLACES }
+        ensures fit { result.fit.now ≡ self.old.fit }
+    {
         let WorkPlaces {
             branches,
             trail,

@@ -28,6 +28,7 @@ pub(crate) fn singles(values: &[u8]) -> ValueSets
     ensures { (x : ℕ) → x < length values.now → slice_index result.sets x ≡ 2 ^ slice_index values.now x }
 {
     let mut sets = [0; 24];
+    // By the option's number: of what is written through a zip nothing is known afterwards.
     for (x, value) in values.iter().enumerate() {
         sets[x] = only(*value);
     }

@@ -15,6 +15,7 @@ use values::full;
 pub fn trim(book: &Book, sets: &mut [u32; 24])
     ensures { Trimmed (contents book.now) sets.old sets.new }
 {
+    // By the option's number: of what is written through a zip nothing is known afterwards.
     for (x, size) in book.sizes().iter().enumerate() {
         sets[x] &= full(*size);
     }

@@ -28,10 +28,7 @@ fn has(set: u32, value: u8) -> bool {
 
 /// Whether the option's set has the value.
 fn member(sets: &[u32], option: usize, value: u8) -> bool {
-    match sets.get(option) {
-        Some(set) => has(*set, value),
-        None => false,
-    }
+    sets.get(option).is_some_and(|set| has(*set, value))
 }
 
 impl Listing {

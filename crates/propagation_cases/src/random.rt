@@ -3,7 +3,7 @@ use crate::direct::{Model, is_whole};
 use crate::library::{Answer, Reduced, consult};
 use crate::made::{random_plan, random_sets};
 use book::Row;
-use made_books::{Dice, build};
+use made_books::{Dice, build, raise};
 use propagate::Outcome;
 use std::io;
 use values::size;
@@ -24,11 +24,6 @@ struct Totals {
     tables: usize,
     universal: usize,
     tables_agree: usize,
-}
-
-/// One more.
-fn raise(count: &mut usize) {
-    *count = count.wrapping_add(1);
 }
 
 impl Totals {

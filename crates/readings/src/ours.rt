@@ -1,9 +1,13 @@
 // What the library's reading finds, in the terms of the second reading.
+ghost use Rattle.std.specs.Prelude.{◌≡◌};
+
 use crate::apart::{Finding, Refusal, mix};
 use book::{Book, Fault, Row, TableIndex};
 
 /// The second reading tells no field.
 impl From<Fault> for Refusal {
+    ghost from_gives = { λ f r. r ≡ record { question = f.question; bit = f.bit } };
+
     fn from(fault: Fault) -> Refusal {
         Refusal {
             question: fault.question,

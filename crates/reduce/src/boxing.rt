@@ -77,6 +77,7 @@ pub fn box_of(book: &Book, sets: &ValueSets) -> ValueBox
     trim(book, &mut values);
     let bound = bound_options(book, &values);
     let mut noted = [0; 24];
+    // By the option's number: of what is written through a zip nothing is known afterwards.
     for (x, size) in book.sizes().iter().enumerate() {
         noted[x] = recorded(bound, x as u8, values[x], *size);
     }

@@ -12,6 +12,7 @@ pub struct Decision {
     pub value: usize,
 }
 
+// An enum and no closure: lists of calls hold it, and the model and the library are asked the same.
 /// What becomes of a decision.
 #[derive(Clone, Copy)]
 pub enum Act {
@@ -71,10 +72,7 @@ pub fn numbered(number: usize) -> Decision {
 
 /// The size of an option, 0 where there is none.
 pub fn size_of(plan: &Plan, option: usize) -> usize {
-    match plan.sizes.get(option) {
-        Some(size) => *size as usize,
-        None => 0,
-    }
+    plan.sizes.get(option).map_or(0, |size| usize::from(*size))
 }
 
 /// All sizes of a plan together.

@@ -4,12 +4,12 @@ use crate::obeying::{Came, Reply, issues, obey};
 use crate::scripts::{Expected, Line, Plain};
 use ask::{Answer, Asked};
 use book::Book;
-use made_books::untouched;
+use made_books::{Refusals, raise, untouched};
 use shared::open_on;
 use sheet::Sheet;
 use store::Store;
 
-/// What came of the calls so far; the refusals by the numbers of their questions.
+/// What came of the calls so far.
 #[derive(Default, Drop)]
 pub struct Tally {
     pub calls: usize,
@@ -19,13 +19,8 @@ pub struct Tally {
     pub fits: usize,
     pub nones: usize,
     pub stops: usize,
-    pub refusals: [usize; 24],
+    pub refusals: Refusals,
     pub differences: usize,
-}
-
-/// One more.
-pub fn raise(count: &mut usize) {
-    *count = count.wrapping_add(1);
 }
 
 impl Tally {
@@ -42,11 +37,7 @@ impl Tally {
     fn note(&mut self, came: &Came) {
         raise(&mut self.calls);
         match came.reply {
-            Err(question) => {
-                if let Some(count) = self.refusals.get_mut(question.number() as usize) {
-                    raise(count);
-                }
-            }
+            Err(question) => self.refusals.note(question),
             Ok(Reply::Done) => raise(&mut self.decisions),
             Ok(Reply::Granted) => raise(&mut self.granted),
             Ok(Reply::Answered(asked)) => self.note_answer(asked.answer),

@@ -10,12 +10,12 @@ mod plans;
 mod scripts;
 mod standing;
 
-use crate::comparing::{Run, Tally, compare, raise};
+use crate::comparing::{Run, Tally, compare};
 use crate::plans::{has_barren, has_unmentioned};
 use crate::scripts::{Line, make_script};
 use book::{Book, Row};
 use forgetful::ForgetfulStore;
-use made_books::{Dice, Plan, build, random_plan};
+use made_books::{Dice, Plan, build, raise, random_plan};
 use std::io;
 use store::{BlankStore, RingStore, Slot, SlotStore};
 
@@ -155,16 +155,6 @@ fn show_shapes(rt: &HostRuntime, shapes: &Shapes) -> io::Result<()> {
     )
 }
 
-fn show_refusals(rt: &HostRuntime, refusals: &[usize; 24]) -> io::Result<()> {
-    println!(rt; "refusals by the number of the question")?;
-    for (number, count) in refusals.iter().enumerate() {
-        if *count > 0 {
-            println!(rt; "  {number}: {count}")?;
-        }
-    }
-    Ok(())
-}
-
 /// The calls, and what came of them.
 fn show_calls(rt: &HostRuntime, tally: &Tally) -> io::Result<()> {
     let calls = tally.calls;
@@ -181,7 +171,8 @@ fn show_calls(rt: &HostRuntime, tally: &Tally) -> io::Result<()> {
     let granted = tally.granted;
     let orders = tally.orders;
     println!(rt; "may be issued: {granted}; issued at the end: {orders}")?;
-    show_refusals(rt, &tally.refusals)
+    println!(rt; "refusals by the number of the question")?;
+    tally.refusals.show(rt, "  ")
 }
 
 /// The trials of each store, and the differences.

@@ -72,6 +72,7 @@ impl Sheet {
     {
         let sizes = book.sizes();
         let mut sets = [0; 24];
+        // By the option's number: of what is written through a zip nothing is known afterwards.
         for (x, size) in sizes.iter().enumerate() {
             let decided = Decided {
                 fixed: self.by_any(Kind::Fix, x),
