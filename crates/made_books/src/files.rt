@@ -14,7 +14,7 @@ fn put_table(
     table: &Table,
 ) -> Result<(), AllocError> {
     let rows = table.listed(heap, sizes)?;
-    file.put_scope(&table.scope, rows.len())?;
+    file.put_scope(table.options(), rows.len())?;
     for row in &rows {
         file.put_row(row)?;
     }

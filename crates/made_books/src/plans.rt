@@ -1,5 +1,5 @@
 // What a book is to say, before it is a file.
-ghost use Rattle.std.specs.Prelude.{◌≡◌, ◌≤◌, ◌%◌, ◌++◌, ◌∷◌, [], ◌==◌, length, count_by, OnOk, Decides, not, true};
+ghost use Rattle.std.specs.Prelude.{◌≡◌, ◌≤◌, ◌%◌, ◌++◌, ◌∷◌, [], ◌==◌, length, min, take, count_by, OnOk, Decides, not, true};
 ghost use Rattle.arrayvec.specs.ArrayVec.{array_vec_len};
 ghost use Rattle.made_books.specs.Rules.{IsOdd};
 
@@ -19,10 +19,12 @@ pub enum Rule {
     Rows(u64),
 }
 
+// A table is copied, and an `ArrayVec` is not: so the options stand in an array, with how many they are.
 /// A table on some options, the lowest first.
-#[derive(Drop)]
+#[derive(Clone, Copy)]
 pub struct Table {
-    pub scope: ArrayVec<usize, 3>,
+    pub scope: [usize; 3],
+    pub arity: usize,
     pub rule: Rule,
 }
 
@@ -68,21 +70,33 @@ impl Table {
     /// A table on these options.
     pub fn on(scope: &[usize], rule: Rule) -> Table
         requires { length scope.now ≤ 3 }
-        ensures scope { result.scope.items ≡ scope.now }
+        ensures arity { result.arity ≡ length scope.now }
+        ensures scope { take result.arity result.scope ≡ scope.now }
         ensures rule { result.rule ≡ rule }
     {
-        match ArrayVec::try_from(scope) {
-            Ok(scope) => Table { scope, rule },
-            Err(_) => unreachable!(),
+        let arity = scope.len();
+        let mut options = [0; 3];
+        options[..arity].copy_from_slice(scope);
+        Table {
+            scope: options,
+            arity,
+            rule,
         }
+    }
+
+    /// The options of the table.
+    pub fn options(&self) -> &[usize]
+        ensures { result.now ≡ take self.now.arity self.now.scope }
+    {
+        &self.scope[..self.arity.min(3)]
     }
 
     /// What stands at the places of the table's options.
     fn of(&self, numbers: &[u8]) -> ArrayVec<u8, 3>
-        ensures { array_vec_len result ≡ array_vec_len self.now.scope }
+        ensures { array_vec_len result ≡ min self.now.arity 3 }
     {
         let mut found = ArrayVec::new();
-        for option in self.scope.as_slice() {
+        for option in self.options() {
             found.push(at(numbers, *option));
         }
         found
@@ -96,7 +110,7 @@ impl Table {
 
     /// The row with this number in rising order.
     pub fn row(&self, sizes: &[u8], number: usize) -> ArrayVec<u8, 3>
-        ensures { array_vec_len result ≡ array_vec_len self.now.scope }
+        ensures { array_vec_len result ≡ min self.now.arity 3 }
     {
         let mut row = self.of(sizes);
         count_by(&mut row, number);

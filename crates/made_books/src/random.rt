@@ -7,7 +7,7 @@ use std::alloc::{AllocError, Global};
 /// Some of the options in rising order, and about half of their rows, or three of four.
 fn random_table(dice: &mut Dice, options: usize) -> Table {
     let arity = dice.below(options.min(3)).wrapping_add(1);
-    let mut scope = ArrayVec::new();
+    let mut scope = ArrayVec::<usize, 3>::new();
     for option in 0..options {
         let wanted = arity.saturating_sub(scope.len());
         if dice.below(options.saturating_sub(option)) < wanted && !scope.is_full() {
@@ -18,10 +18,7 @@ fn random_table(dice: &mut Dice, options: usize) -> Table {
     if dice.below(2) == 1 {
         rows |= dice.word();
     }
-    Table {
-        scope,
-        rule: Rule::Rows(rows),
-    }
+    Table::on(&scope, Rule::Rows(rows))
 }
 
 /// 2 to 4 options of 1 to 3 values, and up to 4 tables on up to 3 options each.

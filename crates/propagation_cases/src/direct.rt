@@ -9,7 +9,7 @@ type Rows = Vec<ArrayVec<u8, 3>>;
 /// A table as the definitions read it: its options, the rows that it lists, and all others that their sizes allow.
 #[derive(Drop)]
 struct Listing {
-    scope: ArrayVec<usize, 3>,
+    table: Table,
     listed: Rows,
     others: Rows,
 }
@@ -43,9 +43,8 @@ impl Listing {
                 others.push(row)?;
             }
         }
-        let Table { scope, rule: _ } = table;
         Ok(Listing {
-            scope,
+            table,
             listed,
             others,
         })
@@ -53,7 +52,8 @@ impl Listing {
 
     /// Whether each value of the row is in its option's set.
     fn is_live(&self, row: &[u8], sets: &[u32]) -> bool {
-        self.scope
+        self.table
+            .options()
             .iter()
             .zip(row)
             .all(|(option, value)| member(sets, *option, *value))
@@ -66,7 +66,7 @@ impl Listing {
 
     /// Whether each value of each option of the scope has support in the table.
     fn is_upheld(&self, sets: &[u32]) -> bool {
-        for (place, option) in self.scope.iter().enumerate() {
+        for (place, option) in self.table.options().iter().enumerate() {
             let upheld = (0..4u8).all(|held| !member(sets, *option, held)
                 || self.supports(sets, place, held));
             if !upheld {
@@ -131,8 +131,8 @@ impl Model {
 
     /// Whether every table with the option in its scope is universal.
     pub fn is_free(&self, sets: &[u32], option: usize) -> bool {
-        self.tables.iter().all(|table| !table.scope.contains(&option)
-            || table.rules_nothing_out(sets))
+        self.tables.iter().all(|listing| !listing.table.options().contains(&option)
+            || listing.rules_nothing_out(sets))
     }
 
     /// The box of the sets: each option's set, but for those that are whole or free.

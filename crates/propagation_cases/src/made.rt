@@ -20,10 +20,7 @@ fn random_scope(dice: &mut Dice, options: usize) -> ArrayVec<usize, 3> {
 
 /// A table with some of the rows that its options' sizes allow: few, most or all of them.
 fn random_table(dice: &mut Dice, sizes: &[u8]) -> Table {
-    let mut table = Table {
-        scope: random_scope(dice, sizes.len()),
-        rule: Rule::Rows(0),
-    };
+    let mut table = Table::on(&random_scope(dice, sizes.len()), Rule::Rows(0));
     let share = dice.below(5);
     let mut rows = 0u64;
     for number in 0..table.rows(sizes).min(64) {

@@ -16,7 +16,7 @@ pub fn has_barren(plan: &Plan) -> bool {
 fn is_mentioned(plan: &Plan, option: usize) -> bool {
     plan.tables
         .iter()
-        .any(|table| table.scope.contains(&option))
+        .any(|table| table.options().contains(&option))
 }
 
 /// Whether some option is in no table.
