@@ -80,7 +80,8 @@ pub struct Series<'a> {
 impl Series<'_> {
     /// Whether the places that were told are a fit, and the places behind it are untouched.
     fn fit_told(&self, known: &Known, places: &[u8; 24]) -> bool {
-        is_fit(self.plan, &known.sets, places) && untouched(&places[self.plan.sizes.len()..])
+        let values = places.map(|place| place as usize);
+        is_fit(self.plan, &known.sets, &values) && untouched(&places[self.plan.sizes.len()..])
     }
 
     /// Whether what was told is right.

@@ -10,16 +10,14 @@ pub trait Limits {
 
 impl Limits for ValueSets {
     fn leaves(&self, option: usize, value: usize) -> bool {
-        self.sets
-            .get(option)
-            .is_some_and(|set| (*set >> (value % 32)) % 2 == 1)
+        (self.sets[option % 24] >> (value % 32)) % 2 == 1
     }
 }
 
 /// Whether the values are a fit of the plan inside the limits.
-pub fn is_fit<L: Limits>(plan: &Plan, limits: &L, values: &[u8]) -> bool {
+pub fn is_fit<L: Limits>(plan: &Plan, limits: &L, values: &[usize]) -> bool {
     for (option, (size, value)) in plan.sizes.iter().zip(values).enumerate() {
-        if value >= size || !limits.leaves(option, *value as usize) {
+        if value >= size || !limits.leaves(option, *value) {
             return false;
         }
     }
@@ -27,7 +25,7 @@ pub fn is_fit<L: Limits>(plan: &Plan, limits: &L, values: &[u8]) -> bool {
 }
 
 /// The choice of values with this number.
-fn choice(plan: &Plan, number: usize) -> [u8; 24] {
+fn choice(plan: &Plan, number: usize) -> [usize; 24] {
     let mut values = [0; 24];
     let options = plan.sizes.len();
     values[..options].copy_from_slice(&plan.sizes);
@@ -39,7 +37,7 @@ fn choice(plan: &Plan, number: usize) -> [u8; 24] {
 pub fn has_fit<L: Limits>(plan: &Plan, limits: &L) -> bool {
     let mut choices = 1usize;
     for size in &plan.sizes {
-        choices = choices.wrapping_mul(*size as usize);
+        choices = choices.wrapping_mul(*size);
     }
     (0..choices).any(|number| is_fit(plan, limits, &choice(plan, number)))
 }

@@ -31,36 +31,36 @@ pub struct Table {
 /// The size of each option, and the tables.
 #[derive(Drop)]
 pub struct Plan {
-    pub sizes: ArrayVec<u8, 24>,
+    pub sizes: ArrayVec<usize, 24>,
     pub tables: Vec<Table>,
 }
 
-/// What stands at an option's place, and 0 where nothing does.
-fn at(numbers: &[u8], option: usize) -> u8 {
-    numbers.get(option).copied().unwrap_or(0)
+/// What stands at an option's place, and 0 where nothing does; behind the last place of a book they begin anew.
+fn at(numbers: &[usize], option: usize) -> usize {
+    numbers.get(option % 24).copied().unwrap_or(0)
 }
 
 /// Puts the digits of a number in the places of the sizes that it counts by, the last of which counts the ones.
-pub(crate) fn count_by(sizes: &mut [u8], number: usize) {
+pub(crate) fn count_by(sizes: &mut [usize], number: usize) {
     let mut rest = number;
     for place in sizes.iter_mut().rev() {
-        let size = *place as usize;
+        let size = *place;
         if size > 0 {
-            *place = (rest % size) as u8;
+            *place = rest % size;
             rest /= size;
         }
     }
 }
 
 /// How many of the values are odd.
-fn odd_values(values: &[u8]) -> usize
+fn odd_values(values: &[usize]) -> usize
     ensures { result ≡ count_by (λ v. v % 2 == 1) values.now }
 {
     values.iter().filter(|value| **value % 2 == 1).count()
 }
 
 /// Whether the values have an odd sum.
-fn is_odd(values: &[u8]) -> bool
+fn is_odd(values: &[usize]) -> bool
     ensures { Decides result (IsOdd values.now) }
 {
     odd_values(values) % 2 == 1
@@ -92,7 +92,7 @@ impl Table {
     }
 
     /// What stands at the places of the table's options.
-    fn of(&self, numbers: &[u8]) -> ArrayVec<u8, 3>
+    fn of(&self, numbers: &[usize]) -> ArrayVec<usize, 3>
         ensures { array_vec_len result ≡ min self.now.arity 3 }
     {
         let mut found = ArrayVec::new();
@@ -103,13 +103,15 @@ impl Table {
     }
 
     /// How many rows there are, listed or not.
-    pub fn rows(&self, sizes: &[u8]) -> usize {
+    pub fn rows(&self, sizes: &[usize]) -> usize {
         let sizes = self.of(sizes);
-        sizes.iter().fold(1usize, |count, size| { count.wrapping_mul(*size as usize) })
+        sizes
+            .iter()
+            .fold(1usize, |count, size| { count.wrapping_mul(*size) })
     }
 
     /// The row with this number in rising order.
-    pub fn row(&self, sizes: &[u8], number: usize) -> ArrayVec<u8, 3>
+    pub fn row(&self, sizes: &[usize], number: usize) -> ArrayVec<usize, 3>
         ensures { array_vec_len result ≡ min self.now.arity 3 }
     {
         let mut row = self.of(sizes);
@@ -118,17 +120,15 @@ impl Table {
     }
 
     /// The number of a row, in rising order.
-    fn number(&self, sizes: &[u8], row: &[u8]) -> usize {
+    fn number(&self, sizes: &[usize], row: &[usize]) -> usize {
         let sizes = self.of(sizes);
         sizes.iter().zip(row).fold(0usize, |number, (size, value)| {
-            number
-                .wrapping_mul(*size as usize)
-                .wrapping_add(*value as usize)
+            number.wrapping_mul(*size).wrapping_add(*value)
         })
     }
 
     /// Whether the table lists the row.
-    pub fn lists(&self, sizes: &[u8], row: &[u8]) -> bool
+    pub fn lists(&self, sizes: &[usize], row: &[usize]) -> bool
         ensures even { self.now.rule ≡ Rule.Even → Decides result (IsOdd row.now → ⊥) }
         ensures odd { self.now.rule ≡ Rule.Odd → Decides result (IsOdd row.now) }
     {
@@ -141,7 +141,7 @@ impl Table {
     }
 
     /// Whether the table allows the values at its options.
-    pub fn allows(&self, sizes: &[u8], values: &[u8]) -> bool {
+    pub fn allows(&self, sizes: &[usize], values: &[usize]) -> bool {
         self.lists(sizes, &self.of(values))
     }
 
@@ -149,8 +149,8 @@ impl Table {
     pub(crate) fn listed(
         &self,
         heap: Global,
-        sizes: &[u8],
-    ) -> Result<Vec<ArrayVec<u8, 3>>, AllocError> {
+        sizes: &[usize],
+    ) -> Result<Vec<ArrayVec<usize, 3>>, AllocError> {
         let mut listed = Vec::new(heap);
         for number in 0..self.rows(sizes) {
             let row = self.row(sizes, number);
@@ -165,7 +165,7 @@ impl Table {
 impl Plan {
     /// So many options of one size, and no table yet.
     pub fn new(heap: Global, options: usize, size: usize) -> Plan {
-        let mut sizes = ArrayVec::from([size.min(255) as u8; 24]);
+        let mut sizes = ArrayVec::from([size; 24]);
         sizes.truncate(options);
         Plan {
             sizes,
@@ -174,7 +174,7 @@ impl Plan {
     }
 
     /// Options of these sizes, and no table yet.
-    pub fn of(heap: Global, sizes: &[u8]) -> Plan
+    pub fn of(heap: Global, sizes: &[usize]) -> Plan
         requires { length sizes.now ≤ 24 }
         ensures { result.sizes.items ≡ sizes.now }
     {
@@ -197,7 +197,7 @@ impl Plan {
     }
 
     /// Whether every table allows the values.
-    pub fn fits(&self, values: &[u8]) -> bool {
+    pub fn fits(&self, values: &[usize]) -> bool {
         self.tables
             .iter()
             .all(|table| table.allows(&self.sizes, values))

@@ -26,7 +26,7 @@ pub fn small_plan(heap: Global, dice: &mut Dice) -> Result<Plan, AllocError> {
     let options = dice.below(3) + 2;
     let mut sizes = [0; 24];
     for size in sizes.iter_mut() {
-        *size = dice.below(3) as u8 + 1;
+        *size = dice.below(3) + 1;
     }
     let mut plan = Plan::of(heap, &sizes[..options]);
     let tables = dice.below(5);

@@ -4,7 +4,7 @@ use made_books::{Plan, Table};
 use std::alloc::{AllocError, Global};
 
 /// The rows of a table, each with a value for each option of its scope.
-type Rows = Vec<ArrayVec<u8, 3>>;
+type Rows = Vec<ArrayVec<usize, 3>>;
 
 /// A table as the definitions read it: its options, the rows that it lists, and all others that their sizes allow.
 #[derive(Drop)]
@@ -17,22 +17,22 @@ struct Listing {
 /// A book as the definitions read it.
 #[derive(Drop)]
 pub struct Model {
-    pub sizes: ArrayVec<u8, 24>,
+    pub sizes: ArrayVec<usize, 24>,
     tables: Vec<Listing>,
 }
 
 /// Whether the set has the value.
-fn has(set: u32, value: u8) -> bool {
+fn has(set: u32, value: usize) -> bool {
     (set >> (value % 32)) % 2 == 1
 }
 
 /// Whether the option's set has the value.
-fn member(sets: &[u32], option: usize, value: u8) -> bool {
+fn member(sets: &[u32], option: usize, value: usize) -> bool {
     sets.get(option).is_some_and(|set| has(*set, value))
 }
 
 impl Listing {
-    fn of(heap: Global, table: Table, sizes: &[u8]) -> Result<Listing, AllocError> {
+    fn of(heap: Global, table: Table, sizes: &[usize]) -> Result<Listing, AllocError> {
         let mut listed = Vec::new(heap);
         let mut others = Vec::new(heap);
         for number in 0..table.rows(sizes) {
@@ -51,7 +51,7 @@ impl Listing {
     }
 
     /// Whether each value of the row is in its option's set.
-    fn is_live(&self, row: &[u8], sets: &[u32]) -> bool {
+    fn is_live(&self, row: &[usize], sets: &[u32]) -> bool {
         self.table
             .options()
             .iter()
@@ -60,14 +60,14 @@ impl Listing {
     }
 
     /// Whether a listed live row holds the value at the place.
-    fn supports(&self, sets: &[u32], place: usize, held: u8) -> bool {
+    fn supports(&self, sets: &[u32], place: usize, held: usize) -> bool {
         self.listed.iter().any(|row| row.get(place) == Some(&held) && self.is_live(row, sets))
     }
 
     /// Whether each value of each option of the scope has support in the table.
     fn is_upheld(&self, sets: &[u32]) -> bool {
         for (place, option) in self.table.options().iter().enumerate() {
-            let upheld = (0..4u8).all(|held| !member(sets, *option, held)
+            let upheld = (0..4usize).all(|held| !member(sets, *option, held)
                 || self.supports(sets, place, held));
             if !upheld {
                 return false;
@@ -175,6 +175,6 @@ fn inside(one: &[u32], other: &[u32]) -> bool {
 }
 
 /// Whether the set has all values of an option of this size.
-pub fn is_whole(set: u32, size: u8) -> bool {
+pub fn is_whole(set: u32, size: usize) -> bool {
     (0..size).all(|held| has(set, held))
 }

@@ -19,7 +19,7 @@ fn random_scope(dice: &mut Dice, options: usize) -> ArrayVec<usize, 3> {
 }
 
 /// A table with some of the rows that its options' sizes allow: few, most or all of them.
-fn random_table(dice: &mut Dice, sizes: &[u8]) -> Table {
+fn random_table(dice: &mut Dice, sizes: &[usize]) -> Table {
     let mut table = Table::on(&random_scope(dice, sizes.len()), Rule::Rows(0));
     let share = dice.below(5);
     let mut rows = 0u64;
@@ -36,7 +36,7 @@ fn random_table(dice: &mut Dice, sizes: &[u8]) -> Table {
 pub fn random_plan(heap: Global, dice: &mut Dice) -> Result<Plan, AllocError> {
     let mut sizes = [0; 8];
     for size in sizes.iter_mut() {
-        *size = dice.below(2) as u8 + 2;
+        *size = dice.below(2) + 2;
     }
     let options = dice.below(3) + 2;
     let mut plan = Plan::of(heap, &sizes[..options]);

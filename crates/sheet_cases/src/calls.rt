@@ -72,14 +72,14 @@ pub fn numbered(number: usize) -> Decision {
 
 /// The size of an option, 0 where there is none.
 pub fn size_of(plan: &Plan, option: usize) -> usize {
-    plan.sizes.get(option).map_or(0, |size| usize::from(*size))
+    plan.sizes.get(option).copied().unwrap_or(0)
 }
 
 /// All sizes of a plan together.
 pub fn all_sizes(plan: &Plan) -> usize {
     plan.sizes
         .iter()
-        .fold(0usize, |total, size| total.wrapping_add(*size as usize))
+        .fold(0usize, |total, size| total.wrapping_add(*size))
 }
 
 /// Mostly 1 or 2, sometimes 0 or 3.

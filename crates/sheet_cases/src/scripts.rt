@@ -4,7 +4,7 @@ use crate::calls::{
     random_request, size_of,
 };
 use crate::obeying::{Came, Reply, obey};
-use crate::standing::Standing;
+use crate::standing::{Standing, widened};
 use ask::{Answer, Asked};
 use book::Book;
 use made_books::{Dice, Plan, has_fit, is_fit, untouched};
@@ -41,7 +41,7 @@ pub struct Line {
 /// Whether the first places are a fit of the plan that meets every standing decision, and the others untouched.
 fn is_told(plan: &Plan, standing: &Standing, fit: &[u8; FIT]) -> bool {
     let options = plan.sizes.len().min(FIT);
-    is_fit(plan, standing, fit) && untouched(&fit[options..])
+    is_fit(plan, standing, &widened(fit)) && untouched(&fit[options..])
 }
 
 /// Whether an answer is what a look at every choice of values finds.

@@ -1,7 +1,7 @@
 // A model of a sheet, written apart from the library: what stands as a plain table, and the first question that a call answers no.
 ghost use Rattle.std.specs.Prelude.{◌<◌};
 
-use crate::calls::{Act, Call, DECISIONS, Decision, Offer, Request, all_sizes, size_of};
+use crate::calls::{Act, Call, DECISIONS, Decision, FIT, Offer, Request, all_sizes, size_of};
 use made_books::{Limits, Plan, is_fit};
 use questions::Question;
 use sheet::Kind;
@@ -22,6 +22,15 @@ fn place(decision: &Decision) -> usize
     };
     let person = decision.person.wrapping_sub(1) % 2;
     person * 64 + kind * 32 + decision.option % 8 * 4 + decision.value % 4
+}
+
+/// Values as wide as those of a plan, and 0 behind them.
+pub fn widened(values: &[u8]) -> [usize; FIT] {
+    let mut wide = [0; FIT];
+    for (place, value) in wide.iter_mut().zip(values) {
+        *place = *value as usize;
+    }
+    wide
 }
 
 /// Asks whether the person is one of the two.
@@ -88,7 +97,7 @@ impl Standing {
         if offer.values.len() < plan.sizes.len() {
             return Err(Question::FitRoom);
         }
-        if !is_fit(plan, self, &offer.values) {
+        if !is_fit(plan, self, &widened(&offer.values)) {
             return Err(Question::Fit);
         }
         Ok(())
