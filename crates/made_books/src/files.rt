@@ -17,16 +17,13 @@ fn low_bytes(numbers: &[usize]) -> ArrayVec<u8, 24> {
 }
 
 /// A table, with the rows that it lists.
-fn put_table(
-    heap: Global,
-    file: &mut Builder,
-    sizes: &[usize],
-    table: &Table,
-) -> Result<(), AllocError> {
-    let rows = table.listed(heap, sizes)?;
-    file.put_scope(table.options(), rows.len())?;
-    for row in &rows {
-        file.put_row(&low_bytes(row))?;
+fn put_table(file: &mut Builder, sizes: &[usize], table: &Table) -> Result<(), AllocError> {
+    file.put_scope(table.options(), table.listed(sizes))?;
+    for number in 0..table.rows(sizes) {
+        let row = table.row(sizes, number);
+        if table.lists(sizes, &row) {
+            file.put_row(&low_bytes(&row))?;
+        }
     }
     Ok(())
 }
@@ -36,7 +33,7 @@ pub fn build(heap: Global, plan: &Plan) -> Result<Vec<u8>, AllocError> {
     let mut file = Builder::new(heap);
     file.put_options(&low_bytes(&plan.sizes), plan.tables.len())?;
     for table in &plan.tables {
-        put_table(heap, &mut file, &plan.sizes, table)?;
+        put_table(&mut file, &plan.sizes, table)?;
     }
     file.put_names(&LETTERS[..plan.sizes.len()])?;
     Ok(file.finish())

@@ -145,20 +145,11 @@ impl Table {
         self.lists(sizes, &self.of(values))
     }
 
-    /// The rows that the table lists, in rising order.
-    pub(crate) fn listed(
-        &self,
-        heap: Global,
-        sizes: &[usize],
-    ) -> Result<Vec<ArrayVec<usize, 3>>, AllocError> {
-        let mut listed = Vec::new(heap);
-        for number in 0..self.rows(sizes) {
-            let row = self.row(sizes, number);
-            if self.lists(sizes, &row) {
-                listed.push(row)?;
-            }
-        }
-        Ok(listed)
+    /// How many rows the table lists.
+    pub(crate) fn listed(&self, sizes: &[usize]) -> usize {
+        (0..self.rows(sizes))
+            .filter(|number| self.lists(sizes, &self.row(sizes, *number)))
+            .count()
     }
 }
 
