@@ -41,6 +41,25 @@ fn mix_table(book: &Book, table: &TableIndex, digest: u64) -> u64 {
     digest
 }
 
+fn mix_name(name: &[u8], digest: u64) -> u64 {
+    let mut digest = digest;
+    for byte in name {
+        digest = mix(digest, *byte as usize);
+    }
+    digest
+}
+
+/// The bytes of the names, as the library gives each.
+fn mix_names(book: &Book, digest: u64) -> u64 {
+    let mut digest = digest;
+    for option in 0..book.sizes().len() {
+        if let Ok(name) = book.name(option) {
+            digest = mix_name(name, digest);
+        }
+    }
+    digest
+}
+
 /// All that a book says, in the order of its file.
 fn digest(book: &Book) -> u64 {
     let mut digest = mix(mix(mix(0, 1), book.sizes().len()), book.tables().len());
@@ -48,11 +67,7 @@ fn digest(book: &Book) -> u64 {
     for table in book.tables() {
         digest = mix_table(book, table, digest);
     }
-    digest = mix(digest, 0);
-    for byte in book.letters() {
-        digest = mix(digest, *byte as usize);
-    }
-    digest
+    mix_names(book, mix(digest, 0))
 }
 
 /// What `read` finds in a file, with the caller's rows.
