@@ -7,7 +7,7 @@ mod harm;
 use crate::harm::{HARMS, harmed};
 use book::Row;
 use made_books::{Dice, Refusals, build, raise, random_plan};
-use readings::{first, second};
+use readings::{alike, first, second};
 use std::io;
 
 /// How many books are made.
@@ -33,11 +33,11 @@ impl Tally {
             Ok(_) => raise(&mut self.read),
             Err(refusal) => self.refusals.note(refusal.question),
         }
-        let alike = ours == theirs;
-        if !alike {
+        let same = alike(&ours, &theirs);
+        if !same {
             raise(&mut self.differences);
         }
-        alike
+        same
     }
 
     fn show(&self, rt: &HostRuntime, what: &str) -> io::Result<()> {

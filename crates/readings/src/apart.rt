@@ -1,4 +1,6 @@
 // A second reading of the file format, written apart from the first and in another way, to compare it with.
+ghost use Rattle.std.specs.Prelude.{◌≡◌, MatchResult, Decides, Ok, true, false};
+
 use arrayvec::ArrayVec;
 use questions::Question;
 
@@ -11,6 +13,38 @@ pub struct Refusal {
 
 /// What a reading finds: a digest of all that was read, or a refusal.
 pub type Finding = Result<u64, Refusal>;
+
+/// The number by which a question of this reading is to be told, and 0 for one that it doesn't ask.
+// Written apart from the library's, and compared with it.
+fn number(question: Question) -> u8 {
+    match question {
+        Question::FileLength => 1,
+        Question::FieldInside => 2,
+        Question::Edition => 3,
+        Question::Counts => 4,
+        Question::OptionShape => 5,
+        Question::Kind => 6,
+        Question::Scope => 7,
+        Question::RowCount => 8,
+        Question::RowValue => 9,
+        Question::Tail => 10,
+        Question::Room => 11,
+        _ => 0,
+    }
+}
+
+/// Whether the library's reading finds what the second one finds; its refusal is told by the number of the question.
+pub fn alike(ours: &Finding, theirs: &Finding) -> bool
+    ensures { MatchResult theirs.now (λ digest. Decides result (ours.now ≡ Ok digest)) (λ theirs. MatchResult ours.now (λ digest. result ≡ false) (λ ours. result ≡ true → ours.bit ≡ theirs.bit)) }
+{
+    match (ours, theirs) {
+        (Ok(ours), Ok(theirs)) => *ours == *theirs,
+        (Err(ours), Err(theirs)) => {
+            ours.question.number() == number(theirs.question) && ours.bit == theirs.bit
+        }
+        _ => false,
+    }
+}
 
 /// One number more into a digest.
 pub fn mix(digest: u64, number: usize) -> u64 {

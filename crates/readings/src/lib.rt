@@ -4,5 +4,5 @@
 mod apart;
 mod ours;
 
-pub use apart::{Finding, Refusal, second};
+pub use apart::{Finding, Refusal, alike, second};
 pub use ours::first;

@@ -2,6 +2,7 @@
 use crate::calls::{Call, FIT};
 use crate::obeying::{Came, Reply, issues, obey};
 use crate::scripts::{Expected, Line, Plain};
+use crate::standing::number;
 use ask::{Answer, Asked};
 use book::Book;
 use made_books::{Refusals, raise, untouched};
@@ -75,7 +76,9 @@ fn as_many(asked: &Asked, plain: &Plain, budget: usize) -> bool {
 /// Whether what came is what was to come; a sheet without memory is to take just as many trials as the plain ask.
 fn agrees(line: &Line, came: &Came, memory: bool) -> bool {
     match (line.expected, came.reply, &line.call) {
-        (Err(wanted), Err(question), _) => wanted == question && untouched(&came.fit),
+        (Err(wanted), Err(question), _) => {
+            question.number() == number(wanted) && untouched(&came.fit)
+        }
         (Ok(Expected::Done), Ok(Reply::Done), _) | (Ok(Expected::Granted), Ok(Reply::Granted), _) =>
             untouched(&came.fit),
         (Ok(Expected::Plain(plain)), Ok(Reply::Answered(asked)), Call::Ask(request)) => {

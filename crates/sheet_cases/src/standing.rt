@@ -24,6 +24,23 @@ fn place(decision: &Decision) -> usize
     person * 64 + kind * 32 + decision.option % 8 * 4 + decision.value % 4
 }
 
+/// The number by which a question of this model is to be told, and 0 for one that it doesn't ask.
+// Written apart from the library's, and compared with it.
+pub fn number(question: Question) -> u8 {
+    match question {
+        Question::Person => 12,
+        Question::OptionKnown => 13,
+        Question::ValueKnown => 14,
+        Question::NotStanding => 15,
+        Question::Standing => 16,
+        Question::Budget => 18,
+        Question::WorkRoom => 19,
+        Question::FitRoom => 20,
+        Question::Fit => 21,
+        _ => 0,
+    }
+}
+
 /// Values as wide as those of a plan, and 0 behind them.
 pub fn widened(values: &[u8]) -> [usize; FIT] {
     let mut wide = [0; FIT];

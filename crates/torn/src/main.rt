@@ -4,7 +4,7 @@
 
 use book::Row;
 use made_files::with_counts;
-use readings::{Refusal, first, second};
+use readings::{Refusal, alike, first, second};
 use std::io;
 
 /// The sample book: gate, divider and stand, of 3, 2 and 2 values, with tables of 4 and 3 rows.
@@ -17,13 +17,17 @@ const SAMPLE: [u8; 37] = [
 fn compare(rt: &HostRuntime, what: &str, file: &[u8], rows: &mut [Row]) -> io::Result<()> {
     let theirs = second(file, rows.len());
     let ours = first(file, rows);
-    let alike = if ours == theirs { "alike" } else { "DIFFERENT" };
+    let word = if alike(&ours, &theirs) {
+        "alike"
+    } else {
+        "DIFFERENT"
+    };
     match ours {
         Err(Refusal { question, bit }) => {
             let number = question.number();
-            println!(rt; "{what}: refused with {number} at {bit}, {alike}")
+            println!(rt; "{what}: refused with {number} at {bit}, {word}")
         }
-        Ok(_) => println!(rt; "{what}: read, {alike}"),
+        Ok(_) => println!(rt; "{what}: read, {word}"),
     }
 }
 
@@ -38,7 +42,7 @@ fn torn(rt: &HostRuntime, rows: &mut [Row]) -> io::Result<()> {
 fn turned(rt: &HostRuntime, rows: &mut [Row]) -> io::Result<()> {
     let mut read = 0usize;
     let mut refused = 0usize;
-    let mut alike = 0usize;
+    let mut same = 0usize;
     for bit in 0..296usize {
         let mut file = SAMPLE;
         file[bit / 8] ^= 1 << (7 - bit % 8);
@@ -48,11 +52,11 @@ fn turned(rt: &HostRuntime, rows: &mut [Row]) -> io::Result<()> {
             Err(_) => refused = refused.wrapping_add(1),
             Ok(_) => read = read.wrapping_add(1),
         }
-        if ours == theirs {
-            alike = alike.wrapping_add(1);
+        if alike(&ours, &theirs) {
+            same = same.wrapping_add(1);
         }
     }
-    println!(rt; "each of 296 bits turned: {read} read, {refused} refused, {alike} alike")
+    println!(rt; "each of 296 bits turned: {read} read, {refused} refused, {same} alike")
 }
 
 /// Of each file at a bound: what it is, how many options it has, and how many rows each of its tables.
