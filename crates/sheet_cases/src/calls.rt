@@ -75,6 +75,12 @@ pub fn size_of(plan: &Plan, option: usize) -> usize {
     plan.sizes.get(option).copied().unwrap_or(0)
 }
 
+/// The size of an option, 4 where there is none.
+// So values other than 0 stand behind the options and beside an unknown one, and no call is to take notice of them.
+fn drawn_size(plan: &Plan, option: usize) -> usize {
+    plan.sizes.get(option).copied().unwrap_or(4)
+}
+
 /// All sizes of a plan together.
 pub fn all_sizes(plan: &Plan) -> usize {
     plan.sizes
@@ -132,7 +138,7 @@ pub fn random_decision(dice: &mut Dice, plan: &Plan) -> Decision {
             Kind::Bar
         },
         option,
-        value: random_place(dice, size_of(plan, option)),
+        value: random_place(dice, drawn_size(plan, option)),
     }
 }
 
@@ -151,7 +157,7 @@ pub fn random_request(dice: &mut Dice, plan: &Plan) -> Request {
 fn random_values(dice: &mut Dice, plan: &Plan) -> [u8; FIT] {
     let mut values = [0; FIT];
     for (option, value) in values.iter_mut().enumerate() {
-        *value = (random_place(dice, size_of(plan, option)) % 256) as u8;
+        *value = (random_place(dice, drawn_size(plan, option)) % 256) as u8;
     }
     values
 }
