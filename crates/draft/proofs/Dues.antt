@@ -1,5 +1,5 @@
 -- Writing fields in turns: what is written, with what is left to write, is all.
-use Rattle.std.proofs.Common.{◌≡◌, ℕ, ◌+◌, ◌-◌, ◌^◌, ◌<◌, ◌≤◌, List, [], ◌∷◌, ◌++◌, length, drop, Some, sym, refl, ap, ◌∙◌, subst, append_assoc, append-nil, arith, length-append}
+use Rattle.std.proofs.Common.{◌≡◌, ℕ, ◌+◌, ◌-◌, ◌^◌, ◌<◌, ◌≤◌, List, [], ◌∷◌, ◌++◌, length, drop, Some, None, sym, refl, ap, ◌∙◌, subst, append_assoc, append-nil, arith, length-append}
 use Rattle.std.specs.List.{AllByRecursion}
 use Rattle.bits.specs.Bits.{spell}
 use Rattle.bits.specs.Ink.{inked, place}
@@ -28,6 +28,9 @@ kept_on a b c k h = record { slice = k.slice ∙ h.slice; long = k.long ∙ h.lo
 pub one_spelt : (f : Field) (v at : ℕ) → spelt at ((f, v) ∷ []) ≡ in_bits v (layout f at)
 unfolding spelt
 one_spelt f v at = append-nil (code (f, v) at)
+
+pub one_none : (f : Field) (v at : ℕ) → layout f at ≡ None → Fit (f, v) → ⊥
+one_none f v at e h = subst (FitsIn v) e (h at)
 
 pub one_fits : (f : Field) (v at w a : ℕ) → layout f at ≡ Some (w, a) → Fit (f, v) → (a ≤ v) × (v - a < 2 ^ w)
 one_fits f v at w a e h = subst (FitsIn v) e (h at)

@@ -21,6 +21,10 @@ use Rattle.draft.proofs.Fitting.{put_front}
 use Rattle.draft.proofs.Layers.{book_whole}
 use Rattle.draft.proofs.Trips.{there}
 
+-- a refused draft
+pub write_refused : (d : Draft) (room : ℕ) (e : Fault) → book (in_draft d) 0 ≡ Err e → Err e ≡ written d room
+write_refused d room e is = sym (ap (λ r. and_then r (λ p. fitted (encode p.0) room)) is)
+
 module _ (d : Draft) (rows : List (List ℕ)) (names : List ℕ) (i : Index) (end : ℕ) (is : book (in_draft d) 0 ≡ Ok (contents_of rows names i, end)) (h : Indexed rows i) (places : 384 ≤ length names) where
   -- the contents by the parts that are handed on
   abbrev parts : Contents

@@ -1,7 +1,7 @@
 -- One more row of a table: the values that have support then, and the count of live rows.
-use Rattle.std.proofs.Common.{◌≡◌, ℕ, ◌+◌, ◌%◌, ◌^◌, ◌<◌, ◌≤◌, Bool, true, false, cond, ◌⊎◌, List, [], ◌∷◌, ◌++◌, map, length, get_or, take, Decides, count_by, sym, refl, ap, ◌∙◌, subst, inl, inr, mod-eq_of_lt, arith}
+use Rattle.std.proofs.Common.{◌≡◌, ℕ, ◌+◌, ◌%◌, ◌^◌, ◌<◌, ◌≤◌, Bool, true, false, cond, ◌⊎◌, List, [], ◌∷◌, ◌++◌, map, length, get_or, take, replicate, Decides, count_by, sym, refl, ap, ◌∙◌, subst, inl, inr, mod-eq_of_lt, arith}
 use lib.Bits.{bit_or}
-use Rattle.std.proofs.lemmas.List.{get_or_append_left, get_or_push, length_push, get_or-take, map_more}
+use Rattle.std.proofs.lemmas.List.{get_or-replicate, get_or_append_left, get_or_push, length_push, get_or-take, map_more}
 use Rattle.std.proofs.lemmas.List.Sums.{sum_by_push}
 use Rattle.std.proofs.lemmas.Bool.{cases_lt, true≢false}
 use Rattle.std.proofs.lemmas.Bool.Decides.{same_from_decides}
@@ -10,7 +10,7 @@ use Rattle.values.specs.Members.{In}
 use Rattle.propagate.specs.Sets.{Sets}
 use Rattle.propagate.specs.Support.{Live, Support, is_live}
 use Rattle.propagate.specs.Steps.{Collects, table_from}
-use Rattle.values.proofs.Digits.{in_either, in_or, in_one, in_one_only}
+use Rattle.values.proofs.Digits.{in_either, in_or, in_zero, in_one, in_one_only}
 use Rattle.propagate.proofs.Living.{is_live_decides}
 
 module _ (rows : List (List ℕ)) (new : List ℕ) where
@@ -59,6 +59,12 @@ module _ (sets : Sets) (scope : List ℕ) (rows : List (List ℕ)) (new : List �
       | inr p ↦ inr (subst (λ x. In (2 ^ get_or new j 0) x) p.1 (in_one _))
     ]));
   }
+
+pub collects_none : (sets : Sets) (scope : List ℕ) → length scope ≤ 4 → Collects sets (with scope []) (replicate 4 0)
+collects_none sets scope few = record {
+  sound = λ j v l h. absurd (in_zero v (subst (λ x. In x v) (get_or-replicate 4 j 0 0 (omega arith)) h));
+  whole = λ j v l s. absurd (omega (arith, s.1.1));
+}
 
 -- what the loop over the rows has after m of them
 pub record Found (sets : Sets) (scope : List ℕ) (rows : List (List ℕ)) (m : ℕ) (seen : List ℕ) (count : ℕ) : Type 0 where

@@ -1,5 +1,5 @@
 -- Steps of propagation.
-use Rattle.std.proofs.Common.{◌≡◌, ℕ, ◌+◌, ◌^◌, ◌<◌, ◌≤◌, List, [], ◌∷◌, ◌++◌, length, get_or, set, sym, ◌∙◌, subst, inl, inr, arith, pow_pos}
+use Rattle.std.proofs.Common.{◌≡◌, ℕ, ◌+◌, ◌^◌, ◌<◌, ◌≤◌, List, [], ◌∷◌, ◌++◌, length, get_or, set, sym, refl, ◌∙◌, subst, inl, inr, arith, pow_pos}
 use lib.Bits.{bit_and, bit_or, and_le_l}
 use Rattle.std.specs.List.{AllByRecursion}
 use Rattle.std.proofs.lemmas.List.{get_or-set_same, get_or-set_other}
@@ -29,6 +29,13 @@ pub record Cutting (options : ℕ) (t : Table) (seen before : List ℕ) (j : ℕ
   pub held : changed ≡ 0 → (k v : ℕ) → k < j → In (placed before (get_or t.scope k 0)) v → In (get_or seen k 0) v
 
 module _ (options : ℕ) (t : Table) (seen before : List ℕ) where
+  pub cutting_none : Cutting options t seen before 0 before 0
+  cutting_none = record {
+    cut = record { smaller = λ x v h. h; keeps = λ other h c. h; same = λ x h. refl; known = λ x h. absurd (in_zero x h); less = omega arith };
+    within = λ x h. absurd (in_zero x h);
+    held = λ e k v l. absurd (omega arith);
+  }
+
   module _ (j : ℕ) (now : List ℕ) (changed : ℕ) (old : Cutting options t seen before j now changed) where
     pub cutting_same : bit_and (get_or now (get_or t.scope j 0) 0) (get_or seen j 0) ≡ get_or now (get_or t.scope j 0) 0 → Cutting options t seen before (j + 1) now changed
     cutting_same is = record {

@@ -16,6 +16,12 @@ pub record Rounding (c : Contents) (before : List ℕ) (done : List Table) (now 
   pub cut : Cut (length c.sizes) (Closed c.tables) before now changed
   pub settled : Settled done (placed now) changed
 
+pub rounding_none : (c : Contents) (before : List ℕ) → Rounding c before [] before 0
+rounding_none c before = record {
+  cut = record { smaller = λ x v h. h; keeps = λ other h k. h; same = λ x h. refl; known = λ x h. absurd (in_zero x h); less = omega arith };
+  settled = tt;
+}
+
 least : (a b : ℕ) → bit_or a b ≡ 0 → (a ≡ 0) × (b ≡ 0)
 least a b e = (
   no_values a (λ v h. in_zero v (subst (λ n. In n v) e (in_or a b v (inl h)))),

@@ -17,6 +17,9 @@ pub record Sweeping (c : Contents) (before now : List ℕ) (left : ℕ) : Type 0
   pub rest : (x : ℕ) → length c.sizes ≤ x → get_or now x 0 ≡ get_or before x 0
   pub settled : Settled c.tables (placed now) left
 
+pub sweeping_none : (c : Contents) (before : List ℕ) (pending : ℕ) → Settled c.tables (placed before) pending → Sweeping c before before pending
+sweeping_none c before pending h = record { smaller = λ x v h. h; keeps = λ other h k. h; rest = λ x l. refl; settled = h }
+
 -- an option without a value stays so
 module _ (c : Contents) (before now : List ℕ) (keeps : (other : Sets) → Inside other (placed before) → Closed c.tables other → Inside other (placed now)) where
   pub leaves_none : (x : ℕ) → x < length c.sizes → get_or now x 0 ≡ 0 → LeavesNone c (placed before)

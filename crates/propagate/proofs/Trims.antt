@@ -1,5 +1,5 @@
 -- The loop that takes out the values that options lack.
-use Rattle.std.proofs.Common.{◌≡◌, ℕ, ◌+◌, ◌-◌, ◌%◌, ◌^◌, ◌<◌, ◌≤◌, List, length, get_or, set, ◌∙◌, subst, ap₂, inl, inr, arith}
+use Rattle.std.proofs.Common.{◌≡◌, ℕ, ◌+◌, ◌-◌, ◌%◌, ◌^◌, ◌<◌, ◌≤◌, List, length, get_or, set, refl, ◌∙◌, subst, ap₂, inl, inr, arith}
 use lib.Bits.{bit_and}
 use Rattle.std.proofs.lemmas.List.{get_or-set_same, get_or-set_other}
 use Rattle.std.proofs.lemmas.Nat.{and_mask}
@@ -9,6 +9,9 @@ use Rattle.std.proofs.lemmas.Bool.{cases_lt}
 pub record Trimming (sizes before : List ℕ) (m : ℕ) (now : List ℕ) : Type 0 where
   pub done : (y : ℕ) → y < m → get_or now y 0 ≡ get_or before y 0 % 2 ^ get_or sizes y 0
   pub rest : (y : ℕ) → m ≤ y → get_or now y 0 ≡ get_or before y 0
+
+pub trimming_none : (sizes before : List ℕ) (m : ℕ) → m ≡ 0 → Trimming sizes before m before
+trimming_none sizes before m z = record { done = λ y l. absurd (omega arith); rest = λ y l. refl }
 
 pub trimming_more : (sizes before : List ℕ) (m : ℕ) (now : List ℕ) (all : ℕ) → m < length now → all ≡ 2 ^ get_or sizes m 0 - 1
     → Trimming sizes before m now → Trimming sizes before (m + 1) (set now m (bit_and (get_or now m 0) all))

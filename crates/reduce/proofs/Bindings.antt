@@ -7,7 +7,7 @@ use Rattle.grammar.specs.Contents.{Table, ValidTable}
 use Rattle.values.specs.Members.{In}
 use Rattle.propagate.specs.Sets.{Sets}
 use Rattle.propagate.specs.Support.{Mentions}
-use Rattle.values.proofs.Digits.{in_either, in_or, in_one, in_one_only}
+use Rattle.values.proofs.Digits.{in_either, in_or, in_zero, in_one, in_one_only}
 use Rattle.propagate.proofs.Living.{live_like}
 use Rattle.propagate.proofs.Cuts.{all_parts}
 use Rattle.reduce.specs.Universal.{Universal, Free}
@@ -29,6 +29,9 @@ marks_fold (y ∷ scope) before =
     put : (x j : ℕ) → j < length (y ∷ scope) → get_or (y ∷ scope) j 0 ≡ x → In (bit_or before (2 ^ y)) x ⊎ Mentions scope x
     put x zero l e = inl (in_or before (2 ^ y) x (inr (subst (In (2 ^ y)) e (in_one y))))
     put x (suc j) l e = inr (j, omega arith, e)
+
+pub binds_none : (sets : Sets) (bound : ℕ) → bound ≡ 0 → Binds sets [] bound
+binds_none sets bound z = record { free = λ x h. tt; tied = λ x h f. in_zero x (subst (λ n. In n x) z h) }
 
 -- ---- one more table
 

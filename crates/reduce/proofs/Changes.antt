@@ -11,6 +11,7 @@ use Rattle.grammar.specs.Contents.{Table, Contents, Listed, on_scope, Fit, Valid
 use Rattle.values.specs.Members.{In}
 use Rattle.propagate.specs.Sets.{sets_of}
 use Rattle.propagate.specs.Support.{is_in}
+use Rattle.propagate.specs.Propagation.{Propagated}
 use Rattle.propagate.specs.Laws.{Within}
 use Rattle.values.proofs.Digits.{in_mod, trailing_member}
 use Rattle.propagate.proofs.Fits.{live_on}
@@ -150,3 +151,7 @@ one_box c array a b long p q = ext_get_or 0 a b long (λ x _. elim (cases_lt x (
   ]
   | inr g ↦ p.lacking x g ∙ sym (q.lacking x g)
 ])
+
+-- propagated sets are not empty
+pub propagated_non_empty : (c : Contents) (start end : List ℕ) → Propagated c start end → NonEmpty c end
+propagated_non_empty c start end p x l = omega (arith, p.some x l, p.exact x l)

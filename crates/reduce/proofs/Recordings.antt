@@ -1,6 +1,6 @@
 -- The loop that records option after option.
-use Rattle.std.proofs.Common.{◌≡◌, ℕ, ◌+◌, ◌/◌, ◌%◌, ◌^◌, ◌<◌, ◌≤◌, List, length, get_or, set, sym, ap, ◌∙◌, subst, inl, inr, arith}
-use Rattle.std.proofs.lemmas.List.{get_or-set_same, get_or-set_other, length-set}
+use Rattle.std.proofs.Common.{◌≡◌, ℕ, ◌+◌, ◌/◌, ◌%◌, ◌^◌, ◌<◌, ◌≤◌, List, length, get_or, set, replicate, sym, refl, ap, ◌∙◌, subst, inl, inr, arith}
+use Rattle.std.proofs.lemmas.List.{get_or-set_same, get_or-set_other, get_or-replicate, get_or_past, length-replicate, length-set}
 use Rattle.std.proofs.lemmas.Bool.{cases_lt, cases_eq}
 use Rattle.grammar.specs.Contents.{Contents, Valid}
 use Rattle.values.specs.Members.{In}
@@ -16,7 +16,13 @@ pub record Recording (bound : ℕ) (sizes values : List ℕ) (m : ℕ) (noted : 
   pub rest : (x : ℕ) → m ≤ x → get_or noted x 0 ≡ 0
   pub long : length noted ≡ 24
 
+zeros : (n x : ℕ) → get_or {A = ℕ} (replicate n 0) x 0 ≡ 0
+zeros n x = elim (cases_lt x n) [ inl l ↦ get_or-replicate {A = ℕ} n x 0 0 l | inr g ↦ get_or_past {X = ℕ} (replicate n 0) x 0 (subst (λ m. m ≤ x) (sym (length-replicate {A = ℕ} n 0)) g) ]
+
 module _ (bound : ℕ) (sizes values : List ℕ) where
+  pub recording_none : Recording bound sizes values 0 (replicate 24 0)
+  recording_none = record { done = λ x l. absurd (omega arith); rest = λ x l. zeros 24 x; long = refl }
+
   pub recording_more : (m i : ℕ) (noted : List ℕ) (s : ℕ) → m < 24 → i ≡ m
       → Records (In bound m) ((v : ℕ) → v < get_or sizes m 0 → In (get_or values m 0) v) (get_or values m 0) s
       → Recording bound sizes values m noted → Recording bound sizes values (m + 1) (set noted i s)

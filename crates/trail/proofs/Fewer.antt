@@ -18,7 +18,7 @@ low_digit a b h = elim (cases_eq (a % 2) 1) [ inl e ↦ omega (arith, low_of b (
 halves : (a b : ℕ) → ((v : ℕ) → In a v → In b v) → (v : ℕ) → In (a / 2) v → In (b / 2) v
 halves a b h v i = in_half b v (h (suc v) (in_suc a v i))
 
-no_more : (k a b : ℕ) → a < 2 ^ k → ((v : ℕ) → In a v → In b v) → ones a ≤ ones b
+pub no_more : (k a b : ℕ) → a < 2 ^ k → ((v : ℕ) → In a v → In b v) → ones a ≤ ones b
 no_more zero a b l h = let e : a ≡ 0 = omega arith in omega (arith, ap ones e, ones_zero)
 no_more (suc k) a b l h = omega (arith, ones_step a, ones_step b, low_digit a b h, no_more k (a / 2) (b / 2) (omega (arith, pow-suc 2 k)) (halves a b h))
 

@@ -101,6 +101,9 @@ lt_pow (suc n) = omega (arith, lt_pow n)
 pub no_values : (s : ℕ) → ((v : ℕ) → In s v → ⊥) → s ≡ 0
 no_values s none = same_from_bits s 0 (λ v. omega (arith, none v, bit_at-lt s v, bit_at-zero v))
 
+pub empty_from_none : (k s : ℕ) → s < 2 ^ k → ((v : ℕ) → In s v → ⊥) → s ≡ 0
+empty_from_none k s h none = no_values s none
+
 -- the values of s / 2 ^ k are those of s from k on, less k
 in_high : (s k w : ℕ) → In (s / 2 ^ k) w → In s (k + w)
 in_high s k w h = ap (λ x. x % 2) (sym (shr-shr s k w)) ∙ h
