@@ -1,3 +1,4 @@
 pub mod Grammar
+pub mod Roles
 pub mod Printed
 pub mod Form

@@ -5,6 +5,7 @@ mod command;
 mod printing;
 mod reading;
 mod reply;
+mod role;
 
 pub use command::Command;
 pub use printing::line;

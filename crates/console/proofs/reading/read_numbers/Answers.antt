@@ -1,40 +1,52 @@
-use Rattle.std.proofs.Common.{◌≤◌, eqb, length, ap, ◌∙◌, rules, tests, arith}
+use Rattle.std.proofs.Common.{◌≡◌, ◌+◌, ◌^◌, ◌<◌, [], ◌∷◌, ◌++◌, length, Some, sym, ap, ◌∙◌, arith}
 use Rattle.std.proofs.lemmas.List.{length_push}
-use Rattle.std.proofs.lemmas.Iterator.Consumers.{YieldsList-at, YieldsList-turn, YieldsList-end}
-use Rattle.std.proofs.lemmas.Iterator.Splits.{YieldsList-from_slice_split}
-use Rattle.console.specs.Grammar.{numerals, up_to_three}
-use Rattle.console.proofs.Numbers.{cut, cut_is, part_none, part_more, part_over, parts_over}
+use Rattle.console.proofs.Passing.{digit-step, Blank-step, no_step, end_some, end_none, ten_more}
+use Rattle.console.proofs.Numbers.{below_million}
+use Rattle.console.proofs.Bridge.{pass_is}
 use Rattle.console.proofs.reading.read_numbers.Goals as goal
+use Rattle.console.proofs.reading.read_numbers.Goals.{in-Digit, in-Blank}
 
-pub returns-in_err-number : goal.returns-in_err-number
-returns-in_err-number c =
-    let text = c.args.text.now in
-    let turn = YieldsList-turn
-    (YieldsList-at c.into_iter-part-iterator.ensures.into_iter_gives (YieldsList-from_slice_split _ (λ b. eqb b 32) text c.split-part-items.ensures.rest c.split-part-items.ensures.done c.split-part-items.ensures.closure (λ x r q k. search (rules, tests))))
-    c.loop-part.yielded _ c.loop-part.yielded_by _ _ c.in-Some.part c.in-Some.is c.next.ensures.steps in
-    rw c.from_residual.ensures (ap up_to_three (part_none (cut text) (length c.loop-part.yielded) c.in-Some.part.now turn c.loop-part.numbers.items _ c.loop-part.invariant.0 c.in_err-number.ensures ∙ ap numerals (cut_is text)))
+pub returns-in-Wrong : goal.returns-in-Wrong
+returns-in-Wrong c =
+    sym (sym (pass_is c.args.text.now) ∙ sym c.loop-byte.invariant.0 ∙ no_step c.args.text.now c.loop-byte.numbers.items c.loop-byte.value c.loop-byte.digits c.loop-byte.byte-index c.loop-byte-test.true
+    (λ p q r. c.in-Wrong.ensures.0 (p, q, r)) (λ p q r. c.in-Wrong.ensures.1 (p, q, omega arith)))
 
-pub returns-then-is_full : goal.returns-then-is_full
-returns-then-is_full c =
-    let text = c.args.text.now in
-    let turn = YieldsList-turn
-    (YieldsList-at c.into_iter-part-iterator.ensures.into_iter_gives (YieldsList-from_slice_split _ (λ b. eqb b 32) text c.split-part-items.ensures.rest c.split-part-items.ensures.done c.split-part-items.ensures.closure (λ x r q k. search (rules, tests))))
-    c.loop-part.yielded _ c.loop-part.yielded_by _ _ c.in-Some.part c.in-Some.is c.next.ensures.steps in
-    let full : 3 ≤ length c.loop-part.numbers.items = search (rules, arith) in
-    part_over (cut text) (length c.loop-part.yielded) c.in-Some.part.now turn c.loop-part.numbers.items _ c.loop-part.invariant.0 c.in_ok-number.number c.in_ok-number.ensures full ∙ ap (λ ps. up_to_three (numerals ps)) (cut_is text)
+pub loop-byte-preserved : goal.loop-byte-preserved
+loop-byte-preserved c =
+    elim c.match-role.branch [
+      | in-Digit w ↦
+          let m = w.in-Digit.ensures in
+          let e = digit-step c.args.text.now c.loop-byte.numbers.items c.loop-byte.value c.loop-byte.digits c.loop-byte.byte-index c.loop-byte-test.true m.0 m.1 m.2 in
+          let t = ten_more c.loop-byte.digits in
+          let u : 10 ^ c.match-role.digits ≡ 10 ^ (c.loop-byte.digits + 1) = ap (λ z. 10 ^ z) w.digits-is in
+          let n : length c.match-role.numbers.items ≡ length c.loop-byte.numbers.items = ap (λ z. length z.items) w.numbers-is in
+          ((cc), omega arith, omega arith, omega arith)
+      | in-Blank w ↦
+          let m = w.in-Blank.ensures in
+          let e = Blank-step c.args.text.now c.loop-byte.numbers.items c.loop-byte.value c.loop-byte.digits c.loop-byte.byte-index c.loop-byte-test.true m.0 m.1 (omega arith) in
+          let u : 10 ^ c.match-role.digits ≡ 1 = ap (λ z. 10 ^ z) w.digits-is in
+          let l = length_push c.loop-byte.numbers.items c.loop-byte.value in
+          let n : length c.match-role.numbers.items ≡ length (c.loop-byte.numbers.items ++ c.loop-byte.value ∷ []) = ap (λ z. length z.items) w.numbers-is ∙ ap length w.push.ensures.items in
+          ((cc), omega arith, omega arith, omega arith)
+    ]
 
-pub loop-part-preserved : goal.loop-part-preserved
-loop-part-preserved c =
-    let text = c.args.text.now in
-    let turn = YieldsList-turn
-    (YieldsList-at c.into_iter-part-iterator.ensures.into_iter_gives (YieldsList-from_slice_split _ (λ b. eqb b 32) text c.split-part-items.ensures.rest c.split-part-items.ensures.done c.split-part-items.ensures.closure (λ x r q k. search (rules, tests))))
-    c.loop-part.yielded _ c.loop-part.yielded_by _ _ c.in-Some.part c.in-Some.is c.next.ensures.steps in
-    (rw (c.push.ensures.items, length_push c.loop-part.yielded c.in-Some.part) (part_more (cut text) (length c.loop-part.yielded) c.in-Some.part.now turn c.loop-part.numbers.items _ c.loop-part.invariant.0 c.in_ok-number.number c.in_ok-number.ensures), search (rules, arith))
+pub overflow_mul-value : goal.overflow_mul-value
+overflow_mul-value c =
+    let m = c.in-Digit.ensures in
+    let b : c.loop-byte.value < 1000000 = below_million c.loop-byte.value c.loop-byte.digits (omega arith) m.2 in
+    omega arith
+
+pub overflow_add-value : goal.overflow_add-value
+overflow_add-value c =
+    let m = c.in-Digit.ensures in
+    let b : c.loop-byte.value < 1000000 = below_million c.loop-byte.value c.loop-byte.digits (omega arith) m.2 in
+    omega arith
+
+pub returns-then-digits-eq0 : goal.returns-then-digits-eq0
+returns-then-digits-eq0 c =
+    sym (sym (pass_is c.args.text.now) ∙ sym c.loop-byte.invariant.0 ∙ end_none c.args.text.now c.loop-byte.numbers.items c.loop-byte.value c.loop-byte.digits c.loop-byte.byte-index c.loop-byte-test.false c.if-digits-eq0.true)
 
 pub returns : goal.returns
 returns c =
-    let text = c.args.text.now in
-    let end = YieldsList-end
-    (YieldsList-at c.into_iter-part-iterator.ensures.into_iter_gives (YieldsList-from_slice_split _ (λ b. eqb b 32) text c.split-part-items.ensures.rest c.split-part-items.ensures.done c.split-part-items.ensures.closure (λ x r q k. search (rules, tests))))
-    c.loop-part.yielded _ c.loop-part.yielded_by _ _ c.in-None.is c.next.ensures.steps in
-    parts_over (cut text) (length c.loop-part.yielded) c.loop-part.numbers.items _ (omega (arith, end.1)) c.loop-part.invariant.1 c.loop-part.invariant.0 ∙ ap (λ ps. up_to_three (numerals ps)) (cut_is text)
+    ap Some c.push-2.ensures.items
+    ∙ sym (sym (pass_is c.args.text.now) ∙ sym c.loop-byte.invariant.0 ∙ end_some c.args.text.now c.loop-byte.numbers.items c.loop-byte.value c.loop-byte.digits c.loop-byte.byte-index c.loop-byte-test.false (omega arith))

@@ -1,8 +1,8 @@
-use Rattle.std.proofs.Common.{◌≡◌, ◌≤◌, length, drop}
-use Rattle.console.specs.Grammar.{numerals}
-use Rattle.console.proofs.Numbers.{cut, joining}
+use Rattle.std.proofs.Common.{◌≡◌, ◌^◌, ◌<◌, ◌≤◌, [], length, drop}
+use Rattle.console.proofs.Passing.{pass}
 use Rattle.console.proofs.reading.read_numbers.Given as goal
 
-abbrev pub invariant-loop-part : goal.invariant-loop-part
-invariant-loop-part l =
-    (joining l.numbers.items (numerals (drop (length l.yielded) (cut l.text))) ≡ numerals (cut l.text)) × (length l.numbers.items ≤ 3)
+abbrev pub invariant-loop-byte : goal.invariant-loop-byte
+invariant-loop-byte l =
+    (pass l.numbers.items l.value l.digits (drop l.byte-index l.text) ≡ pass [] 0 0 l.text)
+    × (length l.numbers.items ≤ 2) × (l.digits ≤ 7) × (l.value < 10 ^ l.digits)
