@@ -8,19 +8,25 @@ use book::Book;
 use propagate::ValueSets;
 use values::{lowest, size};
 
+// More values than any set has.
+const BEYOND: usize = 33;
+
+// The fewest so far stand beside the best: with the two as a pair in one `Option` the call takes a third more time.
 /// Of the first options, the one with the fewest values among those with two or more, and the lowest number of equals.
 fn fewest(sets: &[u32; 24], options: usize) -> Option<usize>
     requires { options ≤ 24 }
     ensures { MatchOption result (AllFew options sets.now) (λ x. Fewest options sets.now x) }
 {
     let mut best = None;
+    let mut least = BEYOND;
     for (x, set) in sets[..options].iter().enumerate() {
         let many = size(*set);
-        if many >= 2 && best.is_none_or(|(_, least)| many < least) {
-            best = Some((x, many));
+        if many >= 2 && many < least {
+            best = Some(x);
+            least = many;
         }
     }
-    best.map(|(x, _)| x)
+    best
 }
 
 /// The option with the fewest values among those with two or more, ties to the lowest number, and its lowest value.
