@@ -1,10 +1,10 @@
 // An ask with work slices of its own.
-use crate::work::WorkPlaces;
 use ask::{Answer, Asked, Work, ask, places_of};
 use book::Book;
 use propagate::ValueSets;
 use std::fmt;
 use store::Store;
+use trail::{Branch, Saved, Side};
 
 /// What an ask told: its answer, how many trials it began, and the places of the fit, 255 where nothing was written.
 #[derive(Clone, Copy)]
@@ -63,8 +63,21 @@ pub fn put_to<S: Store>(
     store: &mut S,
     budget: u32,
 ) -> Option<Told> {
-    let mut places = WorkPlaces::<768>::new();
-    let Asked { answer, count } = ask_within(book, start, store, budget, &mut places.lend())?;
-    let fit = places.fit;
+    // Three arrays of its own: places that `WorkPlaces` hands out are copied, thirty kilobytes at each ask.
+    let branch = Branch {
+        option: 0,
+        value: 0,
+        side: Side::Left,
+        mark: 0,
+    };
+    let mut branches = [branch; 768];
+    let mut trail = [Saved { option: 0, set: 0 }; 768];
+    let mut fit = [255; 24];
+    let mut work = Work {
+        branches: &mut branches,
+        trail: &mut trail,
+        fit: &mut fit,
+    };
+    let Asked { answer, count } = ask_within(book, start, store, budget, &mut work)?;
     Some(Told { answer, count, fit })
 }

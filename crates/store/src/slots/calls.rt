@@ -62,7 +62,7 @@ impl<'a> Store for SlotStore<'a> {
 
     fn seen(&mut self, sought: &ValueBox) -> bool {
         let known = self.slots[self.slot_of(sought)];
-        known == Some(*sought)
+        known.is_some_and(|known| known == *sought)
     }
 
     fn tell(&mut self, refuted: &ValueBox) {
