@@ -44,8 +44,8 @@ impl Store for ForgetfulStore {
 
     fn seen(&mut self, sought: &ValueBox) -> bool {
         std::mem::swap(&mut self.first, &mut self.second);
-        let is_sought = |known: ValueBox| known == *sought;
-        self.first.is_some_and(is_sought) || self.second.is_some_and(is_sought)
+        let is_sought = |known: &ValueBox| known == sought;
+        self.first.as_ref().is_some_and(is_sought) || self.second.as_ref().is_some_and(is_sought)
     }
 
     fn tell(&mut self, refuted: &ValueBox) {
