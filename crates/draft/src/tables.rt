@@ -16,8 +16,9 @@ impl<'a> FieldWriter<'a> {
         ensures wrote { Wrote self.old.out.now self.old.pen self.new.out.now self.new.pen (row_fields number first (map (take table.now.arity) rows.now)) }
         ensures kept { Kept self.old self.new }
     {
-        for (i, row) in rows.iter().enumerate() {
-            self.put_run(Run::Row(number, first + i), table.own_values(row));
+        // By the row's number, which is the field's own: an edit that leaves out the first row changes one bound, and is refused for that fact.
+        for i in 0..rows.len() {
+            self.put_run(Run::Row(number, first + i), table.own_values(&rows[i]));
         }
     }
 
