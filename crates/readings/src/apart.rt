@@ -1,5 +1,6 @@
 // A second reading of the file format, written apart from the first and in another way, to compare it with.
-ghost use Rattle.std.specs.Prelude.{◌≡◌, MatchResult, Decides, Ok, true, false};
+ghost use Rattle.std.specs.Prelude.{◌≡◌, ◌<◌, ◌≤◌, MatchResult, Decides, Ok, false};
+ghost use Rattle.questions.specs.Numbers.{number};
 
 use arrayvec::ArrayVec;
 use questions::Question;
@@ -16,7 +17,10 @@ pub type Finding = Result<u64, Refusal>;
 
 /// The number by which a question of this reading is to be told, and 0 for one that it doesn't ask.
 // Written apart from the library's, and compared with it.
-fn number(question: Question) -> u8 {
+fn numbered(question: Question) -> u8
+    ensures asked { number question ≤ 11 → result ≡ number question }
+    ensures others { 11 < number question → result ≡ 0 }
+{
     match question {
         Question::FileLength => 1,
         Question::FieldInside => 2,
@@ -35,12 +39,12 @@ fn number(question: Question) -> u8 {
 
 /// Whether the library's reading finds what the second one finds; its refusal is told by the number of the question.
 pub fn alike(ours: &Finding, theirs: &Finding) -> bool
-    ensures { MatchResult theirs.now (λ digest. Decides result (ours.now ≡ Ok digest)) (λ theirs. MatchResult ours.now (λ digest. result ≡ false) (λ ours. result ≡ true → ours.bit ≡ theirs.bit)) }
+    ensures { MatchResult theirs.now (λ digest. Decides result (ours.now ≡ Ok digest)) (λ theirs. MatchResult ours.now (λ digest. result ≡ false) (λ ours. Decides result ((number ours.question ≡ number theirs.question) × (number theirs.question ≤ 11) × (ours.bit ≡ theirs.bit)))) }
 {
     match (ours, theirs) {
         (Ok(ours), Ok(theirs)) => *ours == *theirs,
         (Err(ours), Err(theirs)) => {
-            ours.question.number() == number(theirs.question) && ours.bit == theirs.bit
+            ours.question.number() == numbered(theirs.question) && ours.bit == theirs.bit
         }
         _ => false,
     }
